@@ -3,6 +3,7 @@
 // numbers, low octet first: how many octets (or the offset of a Seek, the minute of a Commit, the start of a
 // window), and where they start in `data` (or the end of a window).
 #![tactic(auto)]
+
 ghost use Rattle.std.specs.Prelude.{◌+◌, ◌<◌, ◌≤◌, length};
 
 use buffers::parts;

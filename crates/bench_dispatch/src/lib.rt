@@ -1,6 +1,7 @@
 // The best order and the dispatcher in loops, over a state and buffers that bench/ lends. They stand apart
 // from `bench_calls`, so that there each call has one caller, which is made part of it.
 #![tactic(auto)]
+
 use dispatcher::scripts::{ScriptCall, Scripts};
 use state::layout::State;
 use state::outcomes::Outcome;

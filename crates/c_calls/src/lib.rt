@@ -2,6 +2,7 @@
 // memory, and answers one number: the result, or a refusal's number negated. The arrays cross as plain
 // pointers, `bytes`, `reader` and their like as a pointer and a length.
 #![tactic(auto)]
+
 mod readers;
 
 ghost use Rattle.spec.specs.Promises.{lent_mut, lent_shared};

@@ -1,5 +1,6 @@
 // Outcomes as numbers of C.
 #![tactic(auto)]
+
 ghost use Rattle.std.specs.Prelude.{◌≡◌, ℤ, pos, negsuc};
 ghost use Rattle.state.specs.Outcomes.{number, said};
 ghost use Rattle.c_codes.specs.Codes.{negated, code_of, gap_in, tried_in};

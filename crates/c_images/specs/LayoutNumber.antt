@@ -6,7 +6,6 @@ use Rattle.std.specs.Prelude.{List, ◌≡◌, get_or, ℕ, ◌+◌, ◌*◌, �
 use Rattle.counters.specs.declared.Used.{Used}
 use Rattle.buffers.specs.Marks.{contains}
 use Rattle.windows.specs.Windows.{window}
-use Rattle.standings.specs.declared.Standing.{Standing}
 use Rattle.standings.specs.declared.Standing.TheVariants.{Untouched, Placed, Deferred, Moved, Known}
 use Rattle.state.specs.StoreMeaning.{transaction, standing_at, dirty_at, window_at}
 use Rattle.state.specs.Journal.{decoded, write_record_at}

@@ -2,6 +2,7 @@
 // number of the state's layout. Arrays cross as plain pointers, the image as three: numbers, files, old
 // bytes.
 #![tactic(auto)]
+
 mod loading;
 mod saving;
 

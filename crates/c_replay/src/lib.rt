@@ -1,5 +1,6 @@
 // A line of a log of calls, applied to a store that lies in the memory of a program in another language.
 #![tactic(auto)]
+
 ghost use Rattle.spec.specs.Promises.{lent_mut};
 ghost use Rattle.c_replay.specs.ReplayLine.{AsksNothing, ReplaysLine};
 

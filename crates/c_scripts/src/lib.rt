@@ -1,6 +1,7 @@
 // The dispatcher for programs in other languages, as `c_calls` has the calls. It stands in an archive of its
 // own: a function that two callers share is not inlined, and the calls would be slower beside it.
 #![tactic(auto)]
+
 mod flat_scripts;
 
 ghost use Rattle.spec_dispatch.specs.Dispatch.{dispatch as dispatch_rule};

@@ -1,5 +1,6 @@
 // Fresh, Begin and Abort; and `end_all`, which ends every transaction in a state that is saved.
 #![tactic(auto)]
+
 mod abort_call;
 mod begin_call;
 mod end_all_call;

@@ -3,6 +3,7 @@
 // (`permutation`). One pass over these octets counts the grants of an order (`pass`); a longer one does where
 // Commit's placing has a part in them (`follow`).
 #![tactic(auto)]
+
 mod admit_list;
 mod best;
 mod follow;

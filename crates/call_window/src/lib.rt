@@ -1,5 +1,6 @@
 // The call that sets the window of a file, the minutes of the day in which it may change (02, F-11; R-11.2).
 #![tactic(auto)]
+
 ghost use Rattle.std.specs.Prelude.{[]};
 ghost use Rattle.spec.specs.Messages.{Call};
 ghost use Rattle.spec.specs.Calls.{call};

@@ -1,5 +1,6 @@
 // The calls that look at nothing committed: Seek and Write.
 #![tactic(auto)]
+
 mod seek_call;
 mod write_call;
 

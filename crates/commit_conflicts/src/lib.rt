@@ -1,6 +1,7 @@
 // Whom a commit would make stale: those who have sighted one of the bytes (`bytes`), the offsets (`offsets`)
 // or the lengths (`lengths`) that it would set.
 #![tactic(auto)]
+
 mod bytes;
 mod lengths;
 mod offsets;

@@ -1,5 +1,6 @@
 // Which files are closed at a minute, and whether a transaction has a byte for one of them.
 #![tactic(auto)]
+
 ghost use Rattle.std.specs.Prelude.{List, ◌≡◌, ℕ, length};
 ghost use Rattle.limits.specs.Limits.{buffer_bytes};
 ghost use Rattle.commit_windows.specs.WindowCheck.{OpenIn, closed_files, has_byte_for, has_byte_for_closed};

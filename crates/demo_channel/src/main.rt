@@ -4,16 +4,16 @@
 // committed; a later run loads it, and undoes the last grant: no transaction is open then that could prevent
 // it.
 #![tactic(auto)]
+
 mod printing;
 mod saving;
 
-use crate::printing::{
-    end_line, print_number, print_offset, print_text, refusal, tell_end_of_log, tell_ends,
-};
+use crate::printing::{end_line, print_offset, refusal, tell_end_of_log, tell_ends};
 use crate::saving::{Saved, load_saved, save_committed};
 use buffers::parts::part;
 use dispatcher::dispatch;
 use dispatcher::scripts::{ScriptCall, Scripts};
+use std::io;
 use store::{BUFFER_BYTES, Buffer, FILE_BYTES, Refusal, STATE_LEN, State, UndoLog, offset_at};
 
 // The minute of every commit. In a fresh store each file may change at any.
@@ -54,36 +54,39 @@ fn append(
 
 // Commits transaction t, and prints the outcome. Answers whether it was stale, and has to begin again.
 fn commit(
+    rt: &impl Print,
     state: &mut State,
     files: &mut Buffer,
     logs: &Buffer,
     marks: &mut Buffer,
     undo: &mut UndoLog,
     t: usize,
-) -> bool {
+) -> io::Result<bool> {
     let r = refusal(store::commit(state, files, logs, marks, undo, t, MINUTE));
-    print_number(b"commit ", t as u64);
-    print_text(b": ");
-    end_line(b"granted\n", r);
-    r == Refusal::Stale.number()
+    print!(rt; "commit {t}: ")?;
+    end_line(rt, "granted", r)?;
+    Ok(r == Refusal::Stale.number())
 }
 
 // Loggers 1 and 2 append a line each behind one descriptor, and 2 commits first. Both are granted.
 fn log(
+    rt: &impl Print,
     state: &mut State,
     files: &mut Buffer,
     logs: &mut Buffer,
     marks: &mut Buffer,
     undo: &mut UndoLog,
-) {
+) -> io::Result<()> {
     append(state, files, logs, marks, undo, 1, LOG, b"14:02 jingle\n");
     append(state, files, logs, marks, undo, 2, LOG, b"14:03 news\n");
-    commit(state, files, logs, marks, undo, 2);
-    commit(state, files, logs, marks, undo, 1);
+    commit(rt, state, files, logs, marks, undo, 2)?;
+    commit(rt, state, files, logs, marks, undo, 1)?;
+    Ok(())
 }
 
 // The rival puts an entry into the playlist.
 fn cue(
+    rt: &impl Print,
     state: &mut State,
     files: &mut Buffer,
     logs: &mut Buffer,
@@ -91,9 +94,10 @@ fn cue(
     undo: &mut UndoLog,
     d: usize,
     entry: &[u8],
-) {
+) -> io::Result<()> {
     append(state, files, logs, marks, undo, RIVAL, d, entry);
-    commit(state, files, logs, marks, undo, RIVAL);
+    commit(rt, state, files, logs, marks, undo, RIVAL)?;
+    Ok(())
 }
 
 // The editor reads the playlist's first entry, and writes it again behind it.
@@ -116,25 +120,27 @@ fn repeat(
 // The editor's task: where the commit is refused as stale, it begins again, and reads what is committed by
 // then. The rival has put in the first entry, and changes it during the editor's first try.
 fn edit(
+    rt: &impl Print,
     state: &mut State,
     files: &mut Buffer,
     logs: &mut Buffer,
     marks: &mut Buffer,
     undo: &mut UndoLog,
-) {
-    cue(state, files, logs, marks, undo, PLAYLIST, b"feature\n");
+) -> io::Result<()> {
+    cue(rt, state, files, logs, marks, undo, PLAYLIST, b"feature\n")?;
     let mut tries = 0;
     while tries < TRIES {
         repeat(state, files, logs, marks, undo);
         if tries == 0 {
-            cue(state, files, logs, marks, undo, FRONT, b"trailer\n");
+            cue(rt, state, files, logs, marks, undo, FRONT, b"trailer\n")?;
         }
-        let stale = commit(state, files, logs, marks, undo, EDITOR);
+        let stale = commit(rt, state, files, logs, marks, undo, EDITOR)?;
         if !stale {
-            return;
+            return Ok(());
         }
         tries += 1;
     }
+    Ok(())
 }
 
 // Three scripts: their lines are parts of one text, which is lent beside them.
@@ -147,21 +153,23 @@ fn tasks() -> Scripts {
 }
 
 // Prints the log's five lines, and the playlist's two entries.
-fn show(files: &[u8]) {
+fn show(rt: &impl Print, files: &[u8]) -> io::Result<()> {
     if files.len() == BUFFER_BYTES {
-        print_text(part(files, 0, 61));
-        print_text(part(files, FILE_BYTES, 2 * ENTRY));
+        rt.write_all(part(files, 0, 61))?;
+        rt.write_all(part(files, FILE_BYTES, 2 * ENTRY))?;
     }
+    Ok(())
 }
 
 // Hands the scripts to the dispatcher.
 fn run(
+    rt: &impl Print,
     state: &mut State,
     files: &mut Buffer,
     logs: &mut Buffer,
     marks: &mut Buffer,
     undo: &mut UndoLog,
-) {
+) -> io::Result<()> {
     let text = b"14:04 promo\n14:05 weather\n14:06 film\n";
     let mut reader = [0u8; 1];
     let d = dispatch(
@@ -175,40 +183,54 @@ fn run(
         &mut reader,
         MINUTE,
     );
-    tell_ends(d);
-    show(files);
+    tell_ends(rt, d)?;
+    show(rt, files)
 }
 
 // Asks where the log ends, and leaves nothing open.
-fn ask(state: &mut State, files: &Buffer, logs: &Buffer, marks: &mut Buffer, undo: &UndoLog) {
+fn ask(
+    rt: &impl Print,
+    state: &mut State,
+    files: &Buffer,
+    logs: &Buffer,
+    marks: &mut Buffer,
+    undo: &UndoLog,
+) -> io::Result<()> {
     store::begin(state, files, logs, marks, undo, 1);
     let n = print_offset(store::get_file_pointer(state, files, logs, marks, undo, 1, LOG));
     store::abort(state, files, logs, marks, undo, 1);
-    tell_end_of_log(n);
+    tell_end_of_log(rt, n)
 }
 
 // A later run's work: the log ends where it did. The last grant, that of script 2, is undone.
-fn go_on(state: &mut State, files: &mut Buffer, logs: &Buffer, marks: &mut Buffer, undo: &UndoLog) {
-    ask(state, files, logs, marks, undo);
+fn go_on(
+    rt: &impl Print,
+    state: &mut State,
+    files: &mut Buffer,
+    logs: &Buffer,
+    marks: &mut Buffer,
+    undo: &UndoLog,
+) -> io::Result<()> {
+    ask(rt, state, files, logs, marks, undo)?;
     let r = refusal(store::undo_commit(state, files, logs, marks, undo));
-    print_text(b"taking back: ");
-    end_line(b"done\n", r);
-    tell_end_of_log(offset_at(state, LOG));
+    print!(rt; "taking back: ")?;
+    end_line(rt, "done", r)?;
+    tell_end_of_log(rt, offset_at(state, LOG))
 }
 
 // A later run: what was saved comes back, and logs and marks are new.
-fn restart(saved: Saved) {
+fn restart(rt: &impl Print, saved: Saved) -> io::Result<()> {
     let mut state = [0u16; STATE_LEN];
     let mut files = [0u8; BUFFER_BYTES];
     let logs = [0u8; BUFFER_BYTES];
     let mut marks = [0u8; BUFFER_BYTES];
     let mut undo = [0u8; FILE_BYTES];
     load_saved(saved, &mut state, &mut files, &mut undo);
-    go_on(&mut state, &mut files, &logs, &mut marks, &undo);
+    go_on(rt, &mut state, &mut files, &logs, &mut marks, &undo)
 }
 
 // A fresh store, with descriptors 1 and 2 in file 1 and all others in file 0.
-fn main() {
+fn main(rt: HostRuntime) -> io::Result<()> {
     let mut state = [0u16; STATE_LEN];
     let mut files = [0u8; BUFFER_BYTES];
     let mut logs = [0u8; BUFFER_BYTES];
@@ -216,10 +238,16 @@ fn main() {
     let mut undo = [0u8; FILE_BYTES];
     let numbers = [0u8, 1, 1, 0, 0, 0, 0, 0, 0, 0, 0, 0, 0, 0, 0, 0];
     store::fresh(&mut state, &mut files, &logs, &mut marks, &undo, &numbers);
-    log(&mut state, &mut files, &mut logs, &mut marks, &mut undo);
-    edit(&mut state, &mut files, &mut logs, &mut marks, &mut undo);
-    run(&mut state, &mut files, &mut logs, &mut marks, &mut undo);
-    tell_end_of_log(offset_at(&state, LOG));
+    log(
+        &rt, &mut state, &mut files, &mut logs, &mut marks, &mut undo,
+    )?;
+    edit(
+        &rt, &mut state, &mut files, &mut logs, &mut marks, &mut undo,
+    )?;
+    run(
+        &rt, &mut state, &mut files, &mut logs, &mut marks, &mut undo,
+    )?;
+    tell_end_of_log(&rt, offset_at(&state, LOG))?;
     append(
         &mut state,
         &files,
@@ -230,5 +258,5 @@ fn main() {
         PLAYLIST,
         b"credits\n",
     );
-    restart(save_committed(&state, &files, &undo));
+    restart(&rt, save_committed(&state, &files, &undo))
 }

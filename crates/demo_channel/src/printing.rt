@@ -1,16 +1,7 @@
 // What the program prints, and the numbers that it takes out of outcomes.
 use dispatcher::ends::{Dispatched, End};
-use libc::STDOUT_FILENO;
+use std::io;
 use store::Outcome;
-
-pub fn print_text(text: &[u8]) {
-    io::write_all(STDOUT_FILENO, text);
-}
-
-pub fn print_number(text: &[u8], n: u64) {
-    print_text(text);
-    io::print_decimal(STDOUT_FILENO, n);
-}
 
 // The number of an outcome's refusal; 0 where it is none.
 pub fn refusal(o: Outcome) -> u8 {
@@ -37,44 +28,41 @@ fn failure(end: End) -> u8 {
 }
 
 // Ends a line: with this text where r is 0, and else with the refusal r.
-pub fn end_line(text: &[u8], r: u8) {
+pub fn end_line(rt: &impl Print, text: &str, r: u8) -> io::Result<()> {
     if r == 0 {
-        print_text(text);
-        return;
+        return println!(rt; "{text}");
     }
-    print_number(b"refused with ", r as u64);
-    print_text(b"\n");
+    println!(rt; "refused with {r}")
 }
 
 // How script k ended.
-fn tell_end(d: Dispatched, k: usize) {
+fn tell_end(rt: &impl Print, d: Dispatched, k: usize) -> io::Result<()> {
     if k < 8 {
         let e = d.ends[k];
         let end = e.end;
-        print_number(b"script ", k as u64);
-        print_text(b": ");
-        end_line(b"granted\n", failure(end));
+        print!(rt; "script {k}: ")?;
+        end_line(rt, "granted", failure(end))?;
     }
+    Ok(())
 }
 
 // What the dispatcher answered; and where it ran, how the three scripts ended, and the number of commits.
-pub fn tell_ends(d: Dispatched) {
+pub fn tell_ends(rt: &impl Print, d: Dispatched) -> io::Result<()> {
     let o = d.outcome;
     let r = refusal(o);
-    print_text(b"dispatcher: ");
-    end_line(b"done\n", r);
+    print!(rt; "dispatcher: ")?;
+    end_line(rt, "done", r)?;
     if r > 0 {
-        return;
+        return Ok(());
     }
-    tell_end(d, 0);
-    tell_end(d, 1);
-    tell_end(d, 2);
-    print_number(b"commits: ", d.commits as u64);
-    print_text(b"\n");
+    tell_end(rt, d, 0)?;
+    tell_end(rt, d, 1)?;
+    tell_end(rt, d, 2)?;
+    let commits = d.commits;
+    println!(rt; "commits: {commits}")
 }
 
 // Where the log ends.
-pub fn tell_end_of_log(n: u16) {
-    print_number(b"the log ends at ", n as u64);
-    print_text(b"\n");
+pub fn tell_end_of_log(rt: &impl Print, n: u16) -> io::Result<()> {
+    println!(rt; "the log ends at {n}")
 }

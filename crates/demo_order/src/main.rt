@@ -2,36 +2,23 @@
 // whose end 1 and 2 have seen: a commit of 0 makes 1 and 2 stale, a commit of 1 makes 2 stale. The given
 // order is the worst.
 #![tactic(auto)]
-use libc::STDOUT_FILENO;
+
+use std::io;
 use store::{BUFFER_BYTES, Best, Buffer, FILE_BYTES, Outcome, STATE_LEN, State, UndoLog};
 
 // The minute of every commit. In a fresh store each file may change at any.
 const MINUTE: usize = 0;
 
-fn print(text: &[u8]) {
-    io::write_all(STDOUT_FILENO, text);
-}
-
-fn print_number(text: &[u8], n: u64) {
-    print(text);
-    io::print_decimal(STDOUT_FILENO, n);
-}
-
 // Prints the order of three, its grants, the gap and how many orders were tried.
-fn tell(b: Best) {
+fn tell(rt: &impl Print, b: Best) -> io::Result<()> {
     let o = b.outcome;
-    let order = b.order;
+    let [first, second, third, _, _, _, _, _] = b.order;
     match o {
         Outcome::Ordered(grants, gap, tried) => {
-            print_number(b"order ", order[0] as u64);
-            print_number(b" ", order[1] as u64);
-            print_number(b" ", order[2] as u64);
-            print_number(b": grants ", grants as u64);
-            print_number(b", gap ", gap as u64);
-            print_number(b", orders tried ", tried as u64);
-            print(b"\n");
+            print!(rt; "order {first} {second} {third}: ")?;
+            println!(rt; "grants {grants}, gap {gap}, orders tried {tried}")
         }
-        _ => print(b"refused\n"),
+        _ => println!(rt; "refused"),
     }
 }
 
@@ -82,19 +69,21 @@ fn prepare(
 
 // Asks for the best order of the three, with a budget of so many orders.
 fn ask(
+    rt: &impl Print,
     state: &mut State,
     files: &mut Buffer,
     logs: &mut Buffer,
     marks: &mut Buffer,
     undo: &mut UndoLog,
     budget: usize,
-) {
+) -> io::Result<()> {
     let three = [0u8, 1, 2];
-    tell(store::best_order(state, files, logs, marks, undo, &three, MINUTE, budget));
+    let b = store::best_order(state, files, logs, marks, undo, &three, MINUTE, budget);
+    tell(rt, b)
 }
 
 // A fresh store whose descriptors all belong to file 0.
-fn main() {
+fn main(rt: HostRuntime) -> io::Result<()> {
     let mut state = [0u16; STATE_LEN];
     let mut files = [0u8; BUFFER_BYTES];
     let mut logs = [0u8; BUFFER_BYTES];
@@ -102,7 +91,13 @@ fn main() {
     let mut undo = [0u8; FILE_BYTES];
     store::fresh(&mut state, &mut files, &logs, &mut marks, &undo, &[0u8; 16]);
     prepare(&mut state, &mut files, &mut logs, &mut marks, &mut undo);
-    ask(&mut state, &mut files, &mut logs, &mut marks, &mut undo, 1);
-    ask(&mut state, &mut files, &mut logs, &mut marks, &mut undo, 3);
-    ask(&mut state, &mut files, &mut logs, &mut marks, &mut undo, 6);
+    ask(
+        &rt, &mut state, &mut files, &mut logs, &mut marks, &mut undo, 1,
+    )?;
+    ask(
+        &rt, &mut state, &mut files, &mut logs, &mut marks, &mut undo, 3,
+    )?;
+    ask(
+        &rt, &mut state, &mut files, &mut logs, &mut marks, &mut undo, 6,
+    )
 }

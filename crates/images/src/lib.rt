@@ -1,5 +1,6 @@
 // Images: what is committed, as numbers in the order of docs/IMAGE.md, whatever the state's layout is.
 #![tactic(auto)]
+
 mod parts;
 pub mod saving;
 pub mod words;

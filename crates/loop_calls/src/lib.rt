@@ -1,5 +1,6 @@
 // Calls in loops, to be timed beside the same loops in C.
 #![tactic(auto)]
+
 use limits::FILE_BYTES;
 use state::layout::State;
 use state::outcomes::Outcome;

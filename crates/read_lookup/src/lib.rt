@@ -1,6 +1,7 @@
 // The latest write over a place of a file, and the run from the place on: the longest interval that one write
 // record supplies, or that the file supplies. Also where a file ends for a transaction.
 #![tactic(auto)]
+
 ghost use Rattle.std.specs.Prelude.{◌≡◌, ◌<◌, ◌≤◌, max, get_or};
 ghost use Rattle.limits.specs.Limits.{file_count, descriptor_count};
 ghost use Rattle.state.specs.Layout.{store_of, journal_of};

@@ -1,6 +1,7 @@
 // Settling: the descriptors that a call settles take their committed offsets, and the writes that waited for
 // them get their places.
 #![tactic(auto)]
+
 mod records;
 pub mod settle_call;
 

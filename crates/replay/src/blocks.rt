@@ -6,7 +6,12 @@ ghost use Rattle.replay.specs.Blocks.{state_of_block};
 
 use limits::{BUFFER_BYTES, FILE_BYTES};
 use state::layout::{STATE_LEN, State};
+use std::fs::File;
+use std::io::Read;
+use std::rt::Files;
+use std::str;
 use text_replay::answering::{Buffer, UndoLog};
+use text_stdio::Streams;
 
 // The bytes of the state in a block, and those of a whole block.
 const RECORD_BYTES: usize = 2 * STATE_LEN;
@@ -34,7 +39,7 @@ fn put_numbers(state: &mut [u16], bytes: &[u8])
 
 // Reads a block from an open file: whether it has just the bytes of one.
 fn read_block(
-    fd: i32,
+    file: &mut impl Read,
     state: &mut State,
     files: &mut Buffer,
     logs: &mut Buffer,
@@ -43,19 +48,17 @@ fn read_block(
 ) -> bool {
     let mut bytes = [0u8; RECORD_BYTES];
     let mut more = [0u8; 1];
-    let a = io::read_full(fd, &mut bytes);
-    let b = io::read_full(fd, files);
-    let c = io::read_full(fd, logs);
-    let d = io::read_full(fd, marks);
-    let e = io::read_full(fd, undo);
-    let f = io::read_full(fd, &mut more);
+    let numbers = file.read_exact(&mut bytes).is_ok();
     put_numbers(state, &bytes);
-    let front = (a == RECORD_BYTES) & (b == BUFFER_BYTES) & (c == BUFFER_BYTES);
-    front & (d == BUFFER_BYTES) & (e == FILE_BYTES) & (f == 0)
+    let front = numbers && file.read_exact(files).is_ok() && file.read_exact(logs).is_ok();
+    let whole = front && file.read_exact(marks).is_ok() && file.read_exact(undo).is_ok();
+    whole && file.read(&mut more).unwrap_or(0) == 0
 }
 
-// Reads the block that the path names. Otherwise says so.
+// Reads the block that the path names, which is UTF-8 text. Otherwise says so.
 pub fn load_block(
+    rt: &impl Files,
+    streams: Streams,
     path: &[u8],
     state: &mut State,
     files: &mut Buffer,
@@ -63,15 +66,13 @@ pub fn load_block(
     marks: &mut Buffer,
     undo: &mut UndoLog,
 ) -> bool {
-    let fd = os::open_read(path);
-    if fd < 0 {
-        crate::stdio::say_no_block(path);
-        return false;
-    }
-    let whole = read_block(fd, state, files, logs, marks, undo);
-    libc::close(fd);
+    let opened = File::open(rt, str::from_utf8(path).unwrap_or(""));
+    let whole = match opened {
+        Ok(mut file) => read_block(&mut file, state, files, logs, marks, undo),
+        Err(_) => false,
+    };
     if !whole {
-        crate::stdio::say_no_block(path);
+        crate::stdio::say_no_block(streams, path);
     }
     whole
 }

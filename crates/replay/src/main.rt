@@ -3,6 +3,7 @@
 // lines of another form and failures are reported on standard error. The memory is the same for an input of
 // any size.
 #![tactic(auto)]
+
 mod blocks;
 mod stdio;
 
@@ -20,30 +21,37 @@ ghost use Rattle.replay.specs.WholeRun.{ReachedFrom, RunEnds};
 use buffers::parts::part;
 use limits::{BUFFER_BYTES, FILE_BYTES};
 use state::layout::{STATE_LEN, State};
+use std::rt::{Env, Files};
 use text_log::LOG_LINE_BYTES;
 use text_replay::answering::{Buffer, OUTPUT, ReplayProgress, UndoLog, WRITTEN};
 use text_replay_pieces::{replay_last_line, replay_piece};
-use text_stdio::{lines_more, read_piece, write_out};
+use text_stdio::{Streams, has_argument, lines_more, read_piece, write_out};
+
+// The bytes of a piece of input, and those that a path may have.
+const PIECE_BYTES: usize = 65536;
+
+const PATH_BYTES: usize = 4096;
 
 // Writes the pending output, and counts its lines. A write that fails is reported, and ends the run. No
 // contract can say what is written: the theorem of a whole run binds what is handed over here.
-fn flush(mut p: ReplayProgress, out: &[u8]) -> ReplayProgress
+fn flush(streams: Streams, mut p: ReplayProgress, out: &[u8]) -> ReplayProgress
     requires { p.waiting ≤ length out.now }
     ensures { Flushed p result }
 {
     let n = p.waiting;
-    let done = write_out(part(out, 0, n));
+    let (done, wrote) = write_out(streams, part(out, 0, n));
     p.written = lines_more(part(out, 0, done), p.written);
     p.waiting = 0;
-    if done < n {
+    if let Err(e) = wrote {
         p.goes = false;
-        stdio::say_log_unwritten(p.written);
+        stdio::say_log_unwritten(streams, p.written, e);
     }
     p
 }
 
 // Performs the lines that end in the piece, and buffers the rest.
 fn take_piece(
+    streams: Streams,
     mut p: ReplayProgress,
     state: &mut State,
     files: &mut Buffer,
@@ -68,7 +76,7 @@ fn take_piece(
         let q = replay_piece(
             p, state, files, logs, marks, undo, line, bytes, reader, piece, out,
         );
-        p = flush(q, out);
+        p = flush(streams, q, out);
         if !p.goes {
             return p;
         }
@@ -79,6 +87,7 @@ fn take_piece(
 // Reads a piece and performs its lines; at the end of the input the last one. Another version ends the run as
 // the end of the input does.
 fn turn(
+    streams: Streams,
     mut p: ReplayProgress,
     state: &mut State,
     files: &mut Buffer,
@@ -106,37 +115,38 @@ fn turn(
         (replay_state_in result (machine_of state.new files.new logs.new marks.new undo.new) out.new)) }
 {
     p.complete = false;
-    let got = read_piece(input);
-    if got > 0 {
-        let n = io::count(got, input);
-        let mut q = take_piece(
-            p,
-            state,
-            files,
-            logs,
-            marks,
-            undo,
-            line,
-            bytes,
-            reader,
-            &input[..n],
-            out,
-        );
-        let goes = q.goes;
-        let ended = q.ended;
-        q.complete = goes & ended;
-        q.goes = goes & !ended;
-        return q;
+    match read_piece(streams, input) {
+        Ok(0) => {
+            let q = replay_last_line(p, state, files, logs, marks, undo, line, bytes, reader, out);
+            p = flush(streams, q, out);
+            p.complete = p.goes;
+            p.goes = false;
+        }
+        Ok(n) => {
+            p = take_piece(
+                streams,
+                p,
+                state,
+                files,
+                logs,
+                marks,
+                undo,
+                line,
+                bytes,
+                reader,
+                &input[..n],
+                out,
+            );
+            let goes = p.goes;
+            let ended = p.ended;
+            p.complete = goes & ended;
+            p.goes = goes & !ended;
+        }
+        Err(e) => {
+            p.goes = false;
+            stdio::say_log_unread(streams, p.written, e);
+        }
     }
-    if got == 0 {
-        let q = replay_last_line(p, state, files, logs, marks, undo, line, bytes, reader, out);
-        p = flush(q, out);
-        p.complete = p.goes;
-        p.goes = false;
-        return p;
-    }
-    p.goes = false;
-    stdio::say_log_unread(p.written);
     p
 }
 
@@ -152,24 +162,25 @@ fn turns_left(turns: u64, goes: bool) -> u64
 }
 
 // Says what the run came to, where that is worth a sentence.
-fn tell(p: ReplayProgress) {
+fn tell(streams: Streams, p: ReplayProgress) {
     if p.ended {
-        stdio::say_version(p.version as u64, p.lines);
+        stdio::say_version(streams, p.version as u64, p.lines);
     }
     if 0 < p.malformed {
-        stdio::say_malformed(p.malformed, p.malformed_at);
+        stdio::say_malformed(streams, p.malformed, p.malformed_at);
     }
     if p.returned {
-        stdio::say_log_returned();
+        stdio::say_log_returned(streams);
     }
     if 0 < p.differing {
-        stdio::say_differing(p.differing, p.differing_at);
+        stdio::say_differing(streams, p.differing, p.differing_at);
     }
 }
 
 // Performs the whole input. Nothing says that it ends, so the turns are counted down from a number that no
 // run uses up.
 fn run(
+    streams: Streams,
     state: &mut State,
     files: &mut Buffer,
     logs: &mut Buffer,
@@ -207,7 +218,7 @@ fn run(
     let mut turns = u64::MAX;
     while 0 < turns {
         p = turn(
-            p, state, files, logs, marks, undo, line, bytes, reader, input, out,
+            streams, p, state, files, logs, marks, undo, line, bytes, reader, input, out,
         );
         turns = turns_left(turns, p.goes);
     }
@@ -222,32 +233,32 @@ fn start(state: &mut State, files: &mut Buffer, logs: &Buffer, marks: &mut Buffe
 
 // Makes the store fresh, or reads the block that the argument names: whether there is a store.
 fn prepare(
+    rt: &(impl Env + Files),
+    streams: Streams,
     state: &mut State,
     files: &mut Buffer,
     logs: &mut Buffer,
     marks: &mut Buffer,
     undo: &mut UndoLog,
 ) -> bool {
-    if os::arg_count() < 2 {
+    if !has_argument(rt, 1) {
         start(state, files, logs, marks, undo);
         return true;
     }
-    let mut path = io::buffer();
-    let n = os::arg(1, &mut path);
-    blocks::load_block(
-        part(&path, 0, limits::smaller(n, 4096)),
-        state,
-        files,
-        logs,
-        marks,
-        undo,
-    )
+    let mut path = [0u8; PATH_BYTES];
+    let n = rt.arg(1, &mut path).unwrap_or(0);
+    blocks::load_block(rt, streams, &path[..n], state, files, logs, marks, undo)
 }
 
 // Replays the log, and with more than one argument only says how it is used.
-fn main() {
-    if 2 < os::arg_count() {
-        stdio::say_replay_use();
+fn main(rt: HostRuntime) {
+    let streams = Streams {
+        input: rt.stdin(),
+        output: rt.stdout(),
+        error: rt.stderr(),
+    };
+    if has_argument(&rt, 2) {
+        stdio::say_replay_use(streams);
         return;
     }
     let mut state = [0u16; STATE_LEN];
@@ -255,15 +266,18 @@ fn main() {
     let mut logs = [0u8; BUFFER_BYTES];
     let mut marks = [0u8; BUFFER_BYTES];
     let mut undo = [0u8; FILE_BYTES];
-    if !prepare(&mut state, &mut files, &mut logs, &mut marks, &mut undo) {
+    if !prepare(
+        &rt, streams, &mut state, &mut files, &mut logs, &mut marks, &mut undo,
+    ) {
         return;
     }
     let mut line = [0u8; LOG_LINE_BYTES];
     let mut bytes = [0u8; WRITTEN];
     let mut reader = [0u8; WRITTEN];
     let mut out = [0u8; OUTPUT];
-    let mut input = io::large_buffer();
+    let mut input = [0u8; PIECE_BYTES];
     let p = run(
+        streams,
         &mut state,
         &mut files,
         &mut logs,
@@ -275,5 +289,5 @@ fn main() {
         &mut input,
         &mut out,
     );
-    tell(p);
+    tell(streams, p);
 }

@@ -1,5 +1,6 @@
 // Calls as data, and how one is performed on the store.
 #![tactic(auto)]
+
 ghost use Rattle.spec.specs.Promises.{lent_mut};
 ghost use Rattle.requests.specs.Performing.{Performed};
 

@@ -1,6 +1,7 @@
 // The standing of a descriptor in a transaction, and the table of standings: a method for each of its
 // columns.
 #![tactic(auto)]
+
 ghost use Rattle.std.specs.Prelude.{◌≡◌, ◌+◌, ◌≤◌};
 ghost use Rattle.limits.specs.Limits.{file_bytes};
 ghost use Rattle.standings.specs.Table.{after_seek, after_write, after_read, pointer_settles, read_settles};

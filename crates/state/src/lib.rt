@@ -2,6 +2,7 @@
 // numbers: `layout` reads and writes what they mean, in the forms below, `journal` the write records among
 // them, `readers` tests it, and `dirty` says which offsets a Commit sets.
 #![tactic(auto)]
+
 pub mod dirty;
 pub mod journal;
 pub mod layout;

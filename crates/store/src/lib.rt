@@ -4,6 +4,7 @@
 // outcome; its promise stands at the function. `made_stale` counts the transactions that a commit's octet
 // names, `end_all` ends every transaction in a copy of the state that is to be saved.
 #![tactic(auto)]
+
 pub use call_commit::{commit, made_stale};
 pub use call_lifecycle::{abort, begin, end_all, fresh};
 pub use call_order::{Best, best_order};

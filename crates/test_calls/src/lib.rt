@@ -2,6 +2,7 @@
 // (from 0) draws twelve numbers, whatever its kind; they, the phase (i div 256) and a guess at which
 // transactions are open give all about the call.
 #![tactic(auto)]
+
 ghost use Rattle.std.specs.Prelude.{◌+◌, ◌≤◌, ◌<◌};
 
 use limits::{BUFFER_BYTES, FILE_BYTES, LAST_TRANSACTION};

@@ -1,4 +1,5 @@
 // Outcomes as numbers, and digests of states and answers.
 #![tactic(auto)]
+
 pub mod digest;
 pub mod outcomes;

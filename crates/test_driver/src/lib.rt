@@ -1,6 +1,7 @@
 // A generated call, performed on the store.
 #![tactic(auto)]
-ghost use Rattle.io.specs.Counts.{IsPrefixLen};
+
+ghost use Rattle.std.specs.Prelude.{◌≡◌, ◌≤◌, length, take};
 
 use dispatcher::ends::{Dispatched, End, Ended};
 use state::layout::State;
@@ -13,7 +14,8 @@ const FILLED: u8 = 165;
 
 // How many bytes of a buffer are lent where n are asked for.
 pub fn within(n: usize, buffer: &[u8]) -> usize
-    ensures { IsPrefixLen result buffer.now }
+    ensures within { result ≤ length buffer.now }
+    ensures front { result ≡ length (take result buffer.now) }
 {
     if n < buffer.len() {
         return n;
@@ -34,7 +36,8 @@ fn put(bytes: &mut [u8], first: u8, step: u8) {
 
 // How many bytes of store buffer `which` are lent.
 fn lent(g: Generated, which: usize, buffer: &[u8]) -> usize
-    ensures { IsPrefixLen result buffer.now }
+    ensures within { result ≤ length buffer.now }
+    ensures front { result ≡ length (take result buffer.now) }
 {
     if g.damage.short == which {
         return within(g.damage.length, buffer);

@@ -1,5 +1,6 @@
 // Forged states, which no run from Fresh reaches.
 #![tactic(auto)]
+
 ghost use Rattle.std.specs.Prelude.{◌<◌};
 ghost use Rattle.state.specs.Updates.{StandingFits};
 

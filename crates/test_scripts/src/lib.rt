@@ -1,6 +1,7 @@
 // The scripts of a generated dispatcher. Each call of each script is a plain function of a few numbers of a
 // plan.
 #![tactic(auto)]
+
 ghost use Rattle.std.specs.Prelude.{◌<◌, ◌≤◌};
 
 use dispatcher::scripts::{SCRIPTS, ScriptCall, Scripts};

@@ -1,50 +1,52 @@
 // Runs the twelve situations of paper 01 on the store, and prints for each its letter, a space, and `ok` or
 // `no`.
 #![tactic(auto)]
-use libc::STDOUT_FILENO;
+
 use limits::{BUFFER_BYTES, FILE_BYTES};
 use state::layout::{STATE_LEN, State};
+use std::io;
 use store::{Buffer, UndoLog};
 
 mod letters;
 mod script;
 
-fn print(letter: u8, ok: bool) {
-    let line = [letter, b' '];
-    io::write_all(STDOUT_FILENO, &line);
+fn print(rt: &impl Print, letter: &str, ok: bool) -> io::Result<()> {
     if ok {
-        io::write_all(STDOUT_FILENO, b"ok\n");
+        println!(rt; "{letter} ok")
     } else {
-        io::write_all(STDOUT_FILENO, b"no\n");
+        println!(rt; "{letter} no")
     }
 }
 
 fn run_situations(
+    rt: &impl Print,
     state: &mut State,
     files: &mut Buffer,
     logs: &mut Buffer,
     marks: &mut Buffer,
     undo: &mut UndoLog,
-) {
-    print(b'a', letters::a(state, files, logs, marks, undo));
-    print(b'b', letters::b(state, files, logs, marks, undo));
-    print(b'c', letters::c(state, files, logs, marks, undo));
-    print(b'd', letters::d(state, files, logs, marks, undo));
-    print(b'e', letters::e(state, files, logs, marks, undo));
-    print(b'f', letters::f(state, files, logs, marks, undo));
-    print(b'g', letters::g(state, files, logs, marks, undo));
-    print(b'h', letters::h(state, files, logs, marks, undo));
-    print(b'i', letters::i(state, files, logs, marks, undo));
-    print(b'j', letters::j(state, files, logs, marks, undo));
-    print(b'k', letters::k(state, files, logs, marks, undo));
-    print(b'l', letters::l(state, files, logs, marks, undo));
+) -> io::Result<()> {
+    print(rt, "a", letters::a(state, files, logs, marks, undo))?;
+    print(rt, "b", letters::b(state, files, logs, marks, undo))?;
+    print(rt, "c", letters::c(state, files, logs, marks, undo))?;
+    print(rt, "d", letters::d(state, files, logs, marks, undo))?;
+    print(rt, "e", letters::e(state, files, logs, marks, undo))?;
+    print(rt, "f", letters::f(state, files, logs, marks, undo))?;
+    print(rt, "g", letters::g(state, files, logs, marks, undo))?;
+    print(rt, "h", letters::h(state, files, logs, marks, undo))?;
+    print(rt, "i", letters::i(state, files, logs, marks, undo))?;
+    print(rt, "j", letters::j(state, files, logs, marks, undo))?;
+    print(rt, "k", letters::k(state, files, logs, marks, undo))?;
+    print(rt, "l", letters::l(state, files, logs, marks, undo))
 }
 
-fn main() {
+fn main(rt: HostRuntime) -> io::Result<()> {
     let mut state = [0u16; STATE_LEN];
     let mut files = [0u8; BUFFER_BYTES];
     let mut logs = [0u8; BUFFER_BYTES];
     let mut marks = [0u8; BUFFER_BYTES];
     let mut undo = [0u8; FILE_BYTES];
-    run_situations(&mut state, &mut files, &mut logs, &mut marks, &mut undo);
+    run_situations(
+        &rt, &mut state, &mut files, &mut logs, &mut marks, &mut undo,
+    )
 }

@@ -9,6 +9,7 @@ ghost use Rattle.test_workload.specs.Bounds.{WorkloadBound};
 
 use limits::{BUFFER_BYTES, FILE_BYTES};
 use state::layout::{STATE_LEN, State};
+use std::io;
 use store::{Buffer, UndoLog};
 use test_calls::Generated;
 use test_digest::outcomes::COUNTS;
@@ -138,21 +139,16 @@ fn turn(
     progress_after(c, g, came, &reader[..n])
 }
 
-fn print(n: usize, after: u8) {
-    io::print_decimal(1, n as u64);
-    io::write_all(1, &[after]);
-}
-
-fn print_counts(counts: [usize; COUNTS]) {
-    let mut k = 0;
-    while k < COUNTS {
-        print(counts[k], b' ');
-        k += 1;
+fn print_counts(rt: &impl Print, counts: [usize; COUNTS]) -> io::Result<()> {
+    for count in counts {
+        print!(rt; "{count} ")?;
     }
+    Ok(())
 }
 
 // A line after every thousand calls.
 fn print_line(
+    rt: &impl Print,
     made: usize,
     c: WorkloadProgress,
     state: &State,
@@ -160,17 +156,20 @@ fn print_line(
     logs: &Buffer,
     marks: &Buffer,
     undo: &UndoLog,
-) {
+) -> io::Result<()> {
     if made % 1000 == 0 {
         let counts = c.counts;
-        print(made, b' ');
-        print_counts(counts);
-        print(digest::of_state(state, files, logs, marks, undo), b' ');
-        print(c.answers, b'\n');
+        print!(rt; "{made} ")?;
+        print_counts(rt, counts)?;
+        let stands = digest::of_state(state, files, logs, marks, undo);
+        let answers = c.answers;
+        println!(rt; "{stands} {answers}")?;
     }
+    Ok(())
 }
 
 fn run(
+    rt: &impl Print,
     state: &mut State,
     files: &mut Buffer,
     logs: &mut Buffer,
@@ -178,7 +177,7 @@ fn run(
     undo: &mut UndoLog,
     bytes: &mut [u8],
     reader: &mut [u8],
-) {
+) -> io::Result<()> {
     let mut c = WorkloadProgress {
         last: 1,
         open: [false; 8],
@@ -190,12 +189,13 @@ fn run(
     while i < CALLS {
         c = turn(c, i, state, files, logs, marks, undo, bytes, reader);
         i += 1;
-        print_line(i, c, state, files, logs, marks, undo);
+        print_line(rt, i, c, state, files, logs, marks, undo)?;
     }
+    Ok(())
 }
 
 // Before call 0 comes a Fresh in which descriptor d belongs to file d mod 8.
-fn main() {
+fn main(rt: HostRuntime) -> io::Result<()> {
     let mut state = [0u16; STATE_LEN];
     let mut files = [0u8; BUFFER_BYTES];
     let mut logs = [0u8; BUFFER_BYTES];
@@ -206,6 +206,7 @@ fn main() {
     let list = [0u8, 1, 2, 3, 4, 5, 6, 7, 0, 1, 2, 3, 4, 5, 6, 7];
     store::fresh(&mut state, &mut files, &logs, &mut marks, &undo, &list);
     run(
+        &rt,
         &mut state,
         &mut files,
         &mut logs,
@@ -213,5 +214,5 @@ fn main() {
         &mut undo,
         &mut bytes,
         &mut reader,
-    );
+    )
 }

@@ -1,6 +1,7 @@
 // The line that a trace prints for a reply, put into a lent buffer. Each function answers the place after
 // what it put.
 #![tactic(auto)]
+
 ghost use Rattle.std.specs.Prelude.{◌+◌, ◌*◌, ◌≤◌, length, take};
 ghost use Rattle.state.specs.Outcomes.{said};
 ghost use Rattle.text_answers.specs.Printed.{decimal, ok as ok_text, ok_number};

@@ -2,6 +2,7 @@
 // are pending in it, so that a line of any length passes through. The buffer has one byte more than a line
 // may have.
 #![tactic(auto)]
+
 ghost use Rattle.std.specs.Prelude.{◌≡◌, cond, ◌∷◌, [], ◌-◌, ◌<◌, ◌≤◌, length, take, drop};
 ghost use Rattle.text_lines.specs.Lines.{last_line};
 ghost use Rattle.text_lines.specs.Scans.{NextLine, Went};

@@ -7,7 +7,7 @@ use borrow.Author.Tests.{leb-true, le-leb, lt-leb, lt-ltb, le-ltb, ltb-true, ltb
 use Rattle.text_log.specs.{LogLines.most_written, Replays.{shown, SameTurn}}
 use Rattle.limits.specs.Limits.{file_bytes, last_descriptor, transaction_count, last_transaction}
 use Rattle.state.specs.StoreMeaning.{transaction}
-use Rattle.admission.{specs.{Admission.admission, FirstRefusal.unless}, proofs.Laws.in_range}
+use Rattle.admission.{specs.{Admission.admission, FirstRefusal.unless}, proofs.Laws.in-range}
 use Rattle.standings.specs.Table.{offset_of}
 use Rattle.spec.specs.{Items.{Item, file_length, Values, and_then, result, asked}, Machine.{Machine, txn_of, values, file_of}}
 use Rattle.spec.specs.{Messages.{Call, on, read, buffer_of}, Transactions.{Txn, Write, settling, Settled, past, all}}

@@ -1,5 +1,5 @@
 -- What a replay does with the lines of a log, and that it does what was recorded.
-use Rattle.std.specs.Prelude.{Bool, false, cond, not, List, [], ◌∷◌, ◌++◌, ◌≡◌, eqb, leb, ltb, length, take, drop, ℕ, suc, ◌+◌}
+use Rattle.std.specs.Prelude.{Bool, false, cond, not, List, [], ◌∷◌, ◌++◌, ◌≡◌, eqb, leb, ltb, length, take, drop, ℕ, suc}
 use Rattle.text_numerals.specs.Decimal.{past, AllBelow}
 use Rattle.text_lines.specs.Programs.{LineProgram, transcript, state_after}
 use Rattle.state.specs.Outcomes.{refused}

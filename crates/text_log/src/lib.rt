@@ -1,5 +1,6 @@
 // A call log: calls as lines of text, so that a recorded run can be run again.
 #![tactic(auto)]
+
 mod answers;
 mod parsing;
 

@@ -1,6 +1,7 @@
 // Numbers in decimal and bytes as pairs of hexadecimal digits, put into a lent buffer or read in a line. A
 // function that puts answers the place after what it put.
 #![tactic(auto)]
+
 ghost use Rattle.std.specs.Prelude.{◌≡◌, ◌∷◌, [], ◌+◌, ◌*◌, ◌<◌, ◌≤◌, true, length, take, drop};
 ghost use Rattle.text_numerals.specs.Decimal.{glyph as glyph_of, number_text, spaced_texts, joined_texts};
 ghost use Rattle.text_numerals.specs.Decimal.{is_digit, worth, digits, fitting, front_number};

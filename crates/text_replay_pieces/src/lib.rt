@@ -1,5 +1,6 @@
 // The lines of a piece of a log are performed, and what is answered waits in the output buffer.
 #![tactic(auto)]
+
 ghost use Rattle.std.specs.Prelude.{◌≡◌, [], ◌<◌, length, take, drop};
 ghost use Rattle.text_log.specs.Replay.{replaying};
 ghost use Rattle.text_lines.specs.Lines.{last_line};

@@ -1,5 +1,6 @@
 // The lines of a trace (02, F-5; R-19.2): what a line asks. specs/Grammar.antt says which form a line has.
 #![tactic(auto)]
+
 ghost use Rattle.std.specs.Prelude.{cond, drop};
 ghost use Rattle.requests.specs.declared.Request.{Request};
 ghost use Rattle.text_trace.specs.Grammar.{spaced, after_numeral, ends, writes, lettered};

@@ -2,6 +2,7 @@
 // line for each to standard output. Failures are reported on standard error. The memory is the same for an
 // input of any size.
 #![tactic(auto)]
+
 mod answering;
 mod stdio;
 
@@ -21,30 +22,36 @@ use buffers::parts::part;
 use limits::{BUFFER_BYTES, UNDO_BYTES};
 use state::layout::{STATE_LEN, State};
 use store::{Buffer, UndoLog};
-use text_stdio::{lines_more, read_piece, write_out};
+use text_stdio::{Streams, has_argument, lines_more, read_piece, write_out};
 
 // The bytes buffered of a line: one more than it may have.
 const LINE_BUFFER: usize = 129;
 
+// The bytes that a call of Read may ask for, and those of a piece of input and of pending output.
+const READ_BYTES: usize = 4096;
+
+const PIECE_BYTES: usize = 65536;
+
 // Writes the pending output, and counts its lines. A write that fails is reported, and ends the run. No
 // contract can say what is written: the theorem of a whole run binds what is handed over here.
-fn flush(mut progress: TraceProgress, out: &[u8]) -> TraceProgress
+fn flush(streams: Streams, mut progress: TraceProgress, out: &[u8]) -> TraceProgress
     requires { progress.waiting ≤ length out.now }
     ensures { (result.waiting ≡ 0) × ((result.pending ≡ progress.pending) × (result.at ≡ progress.at)) }
 {
     let n = progress.waiting;
-    let done = write_out(part(out, 0, n));
+    let (done, wrote) = write_out(streams, part(out, 0, n));
     progress.written = lines_more(part(out, 0, done), progress.written);
     progress.waiting = 0;
-    if done < n {
+    if let Err(e) = wrote {
         progress.goes = false;
-        stdio::say_unwritten(progress.written);
+        stdio::say_unwritten(streams, progress.written, e);
     }
     progress
 }
 
 // Answers the lines that end in the piece, and buffers the rest.
 fn take_piece(
+    streams: Streams,
     mut progress: TraceProgress,
     state: &mut State,
     files: &mut Buffer,
@@ -68,7 +75,7 @@ fn take_piece(
         let d = fill(
             progress, state, files, logs, marks, undo, line, reader, piece, out,
         );
-        progress = flush(d, out);
+        progress = flush(streams, d, out);
         if !progress.goes {
             return progress;
         }
@@ -79,6 +86,7 @@ fn take_piece(
 // Reads a piece and answers its lines; where the run goes on, those of a front part of what the input buffer
 // holds.
 fn turn(
+    streams: Streams,
     mut progress: TraceProgress,
     state: &mut State,
     files: &mut Buffer,
@@ -107,33 +115,34 @@ fn turn(
         text) }
 {
     progress.complete = false;
-    let got = read_piece(input);
-    if got > 0 {
-        let n = io::count(got, input);
-        let mut d = take_piece(
-            progress,
-            state,
-            files,
-            logs,
-            marks,
-            undo,
-            line,
-            reader,
-            &input[..n],
-            out,
-        );
-        d.complete = false;
-        return d;
+    match read_piece(streams, input) {
+        Ok(0) => {
+            let d = answer_last_line(progress, state, files, logs, marks, undo, line, reader, out);
+            progress = flush(streams, d, out);
+            progress.complete = progress.goes;
+            progress.goes = false;
+        }
+        Ok(n) => {
+            progress = take_piece(
+                streams,
+                progress,
+                state,
+                files,
+                logs,
+                marks,
+                undo,
+                line,
+                reader,
+                &input[..n],
+                out,
+            );
+            progress.complete = false;
+        }
+        Err(e) => {
+            progress.goes = false;
+            stdio::say_unread(streams, progress.written, e);
+        }
     }
-    if got == 0 {
-        let d = answer_last_line(progress, state, files, logs, marks, undo, line, reader, out);
-        progress = flush(d, out);
-        progress.complete = progress.goes;
-        progress.goes = false;
-        return progress;
-    }
-    progress.goes = false;
-    stdio::say_unread(progress.written);
     progress
 }
 
@@ -151,6 +160,7 @@ fn turns_left(turns: u64, goes: bool) -> u64
 // Answers the whole input. Nothing says that it ends, so the turns are counted down from a number that no run
 // uses up.
 fn run(
+    streams: Streams,
     state: &mut State,
     files: &mut Buffer,
     logs: &mut Buffer,
@@ -179,7 +189,7 @@ fn run(
     let mut turns = u64::MAX;
     while 0 < turns {
         progress = turn(
-            progress, state, files, logs, marks, undo, line, reader, input, out,
+            streams, progress, state, files, logs, marks, undo, line, reader, input, out,
         );
         turns = turns_left(turns, progress.goes);
     }
@@ -197,9 +207,14 @@ fn start(state: &mut State, files: &mut Buffer, logs: &Buffer, marks: &mut Buffe
 }
 
 // Performs the trace, and with any argument only says how it is used.
-fn main() {
-    if 1 < os::arg_count() {
-        stdio::say_use();
+fn main(rt: HostRuntime) {
+    let streams = Streams {
+        input: rt.stdin(),
+        output: rt.stdout(),
+        error: rt.stderr(),
+    };
+    if has_argument(&rt, 1) {
+        stdio::say_use(streams);
         return;
     }
     let mut state = [0u16; STATE_LEN];
@@ -208,11 +223,12 @@ fn main() {
     let mut marks = [0u8; BUFFER_BYTES];
     let mut undo = [0u8; UNDO_BYTES];
     let mut line = [0u8; LINE_BUFFER];
-    let mut reader = io::buffer();
-    let mut input = io::large_buffer();
-    let mut out = io::large_buffer();
+    let mut reader = [0u8; READ_BYTES];
+    let mut input = [0u8; PIECE_BYTES];
+    let mut out = [0u8; PIECE_BYTES];
     start(&mut state, &mut files, &logs, &mut marks, &undo);
     let progress = run(
+        streams,
         &mut state,
         &mut files,
         &mut logs,
@@ -224,6 +240,6 @@ fn main() {
         &mut out,
     );
     if progress.returned {
-        stdio::say_returned();
+        stdio::say_returned(streams);
     }
 }

@@ -1,5 +1,6 @@
 // Windows: the minutes of the day in which a file may change.
 #![tactic(auto)]
+
 ghost use Rattle.std.specs.Prelude.{◌≡◌};
 ghost use Rattle.windows.specs.Windows.{minute_in, is_open_at};
 

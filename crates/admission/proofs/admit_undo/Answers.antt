@@ -19,10 +19,10 @@ returns-in-Refused c = let gate = c.first_tests-gate.ensures in
 pub returns-then-not-none_begun : goal.returns-then-not-none_begun
 unfolding gate_number admission_of_undo unless
 returns-then-not-none_begun c = let at-gate = c in let gate = at-gate.first_tests-gate.ensures in record {
-      gate = gate-after _ _ _ _ gate.gate _ 23 at-gate.in_default.is
+  gate = gate-after _ _ _ _ gate.gate _ 23 at-gate.in_default.is
       (simp (failed c.none_begun.ensures (ap not c.if-not-none_begun.true)));
-      long = gate.long;
-    }
+  long = gate.long;
+}
 
 -- Nothing is held.
 pub returns-then-not-can_undo : goal.returns-then-not-can_undo

@@ -28,10 +28,10 @@ returns-then-f-gt-LAST_FILE c = let gate = c.first_tests-gate.ensures in
 pub returns-then-not-minute_in : goal.returns-then-not-minute_in
 unfolding gate_number admission_of_window window_refusal unless
 returns-then-not-minute_in c = let at-file = c in let gate = at-file.first_tests-gate.ensures in record {
-      gate = gate-after _ _ _ _ gate.gate _ 22 at-file.in_default.is
+  gate = gate-after _ _ _ _ gate.gate _ 22 at-file.in_default.is
       (simp (le-leb _ _ at-file.if-f-gt-LAST_FILE.false, failed c.minute_in.ensures (ap not c.if-not-minute_in.true)));
-      long = gate.long;
-    }
+  long = gate.long;
+}
 
 -- An end above 1,439.
 pub returns-then-not-minute_in-2 : goal.returns-then-not-minute_in-2

@@ -27,9 +27,9 @@ overflow_cast-w c =
     let admits : let m = machine in let a = c.args in AdmittedWindow (sizes m) m.store m.journal a.f a.start a.end = let m = machine in let a = c.args in
     admitted-window (sizes m) m.store m.journal a.f a.start a.end passed in
     let minutes : let a = c.args in (a.start ≤ last_minute) × (a.end ≤ last_minute) = let a = c.args in let both = admits.minutes in (
-  minute-most a.start (and_left (minute_in a.start) (minute_in a.end) both),
-  minute-most a.end (and_right (minute_in a.start) (minute_in a.end) both),
-) in
+      minute-most a.start (and_left (minute_in a.start) (minute_in a.end) both),
+      minute-most a.end (and_right (minute_in a.start) (minute_in a.end) both),
+    ) in
     let l = minutes in search rules
 
 pub overflow_cast-w-2 : goal.overflow_cast-w-2
@@ -39,9 +39,9 @@ overflow_cast-w-2 c =
     let admits : let m = machine in let a = c.args in AdmittedWindow (sizes m) m.store m.journal a.f a.start a.end = let m = machine in let a = c.args in
     admitted-window (sizes m) m.store m.journal a.f a.start a.end passed in
     let minutes : let a = c.args in (a.start ≤ last_minute) × (a.end ≤ last_minute) = let a = c.args in let both = admits.minutes in (
-  minute-most a.start (and_left (minute_in a.start) (minute_in a.end) both),
-  minute-most a.end (and_right (minute_in a.start) (minute_in a.end) both),
-) in
+      minute-most a.start (and_left (minute_in a.start) (minute_in a.end) both),
+      minute-most a.end (and_right (minute_in a.start) (minute_in a.end) both),
+    ) in
     let l = minutes in search rules
 
 pub put_window-requires : goal.put_window-requires

@@ -19,6 +19,6 @@ loop-u-preserved c = let at-loop = c in let a = at-loop.args in let l = at-loop.
     let test = sym (ap₂ (λ (x y : Bool). not (eqb l.u a.t) && x && not y) c.is_begun.ensures
     c.is_stale.ensures) in
     elim c.if-u-t.branch [
-      then-u-t w ↦ (omega arith, w.found-is ∙ w.with-found.ensures ∙ gathered p l.found l.u l.invariant.1 (test ∙ w.if-u-t.true))
+      | then-u-t w ↦ (omega arith, w.found-is ∙ w.with-found.ensures ∙ gathered p l.found l.u l.invariant.1 (test ∙ w.if-u-t.true))
       | else-u-t w ↦ (omega arith, w.found-is ∙ passed-by p l.found l.u l.invariant.1 (test ∙ w.if-u-t.false))
     ]

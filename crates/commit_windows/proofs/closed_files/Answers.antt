@@ -21,7 +21,7 @@ loop-f-preserved c = let at-loop = c in let a = at-loop.args in let l = at-loop.
     let test = sym (ap not (c.is_open.ensures
     ∙ ap (λ (w : Window). is_open_at w a.minute) c.window_at.ensures)) in
     elim c.if-not-is_open.branch [
-      then-not-is_open w ↦ (omega arith, w.closed-is ∙ w.with-closed.ensures ∙ gathered closed l.closed l.f l.invariant.1 (test ∙ (ap not w.if-not-is_open.true)))
+      | then-not-is_open w ↦ (omega arith, w.closed-is ∙ w.with-closed.ensures ∙ gathered closed l.closed l.f l.invariant.1 (test ∙ (ap not w.if-not-is_open.true)))
       | else-not-is_open w ↦ (omega arith, w.closed-is ∙ passed-by closed l.closed l.f l.invariant.1 (test ∙ (ap not w.if-not-is_open.false)))
     ]
 

@@ -44,10 +44,10 @@ contains-requires c =
     let file-is : c.wide-f.result ≡ get_or (store_of c.args.state.now).filenumbers c.record_at-write.result.descriptor 0 = c.wide-f.ensures.0 ∙ c.file_at.ensures ∙ ap (λ (d : ℕ). get_or
     (store_of c.args.state.now).filenumbers d 0) c.wide.ensures.0 in
     let read = c in let start = read in omega (
-  arith,
-  file-is,
-  file-in start.args.state.now start.args.t start.requires read.record_at-write.result.descriptor descriptor,
-)
+      arith,
+      file-is,
+      file-in start.args.state.now start.args.t start.requires read.record_at-write.result.descriptor descriptor,
+    )
 
 pub returns-then-write-contains : goal.returns-then-write-contains
 unfolding record_has_byte_for has_byte_for
@@ -86,9 +86,9 @@ loop-k-preserved c =
     w.descriptor 0)) (sym read.record_at-write.ensures) ∙ ap (λ (b : Bool). ltb 0 read.record_at-write.result.length && b)
     (sym (c.contains.ensures ∙ ap (contains a.octet) file-is)) in
     let read = c in let at-loop = read in (
-  omega (arith, read.loop-k-test.true),
-  some_more testing at-loop.loop-k.k at-loop.loop-k.invariant.1 (this ∙ c.if-write-contains.false),
-)
+      omega (arith, read.loop-k-test.true),
+      some_more testing at-loop.loop-k.k at-loop.loop-k.invariant.1 (this ∙ c.if-write-contains.false),
+    )
 
 pub returns : goal.returns
 unfolding has_byte_for

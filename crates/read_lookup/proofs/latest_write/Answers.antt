@@ -156,12 +156,12 @@ loop-left-preserved c =
     subst (λ (w : WriteRecord). GapOf (store_of a.state.now).filenumbers w (extent a.e.file a.e.place
     turn.loop-left.length) c.gap-g.result) newest-left c.gap-g.ensures in
     let turn = c in let s = turn in (
-  omega arith,
-  omega arith,
-  omega (arith, data-step),
-  walked_more lent s.args.t s.args.used.records s.args.e number_of turn.loop-left.length
-      walked _ c.gap-g.result (omega arith) (omega arith) gap_is,
-)
+      omega arith,
+      omega arith,
+      omega (arith, data-step),
+      walked_more lent s.args.t s.args.used.records s.args.e number_of turn.loop-left.length
+          walked _ c.gap-g.result (omega arith) (omega arith) gap_is,
+    )
 
 pub returns : goal.returns
 returns c =

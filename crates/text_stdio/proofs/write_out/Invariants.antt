@@ -2,8 +2,5 @@
 use Rattle.std.proofs.Common.{◌≤◌, length, rules}
 use Rattle.text_stdio.proofs.write_out.Given as goal
 
-abbrev pub invariant-loop-tries : goal.invariant-loop-tries
-invariant-loop-tries l = l.done ≤ length l.bytes
-
-abbrev pub decreases-loop-tries : goal.decreases-loop-tries
-decreases-loop-tries l = l.tries
+abbrev pub invariant-loop : goal.invariant-loop
+invariant-loop l = l.done ≤ length l.bytes

@@ -18,7 +18,6 @@ returns-then-n-eq0 c = let a = c.args in let e : a.n ≡ 0 = omega arith in
 pub loop-u-init : goal.loop-u-init
 loop-u-init c = unfold bits_of in (omega arith, refl)
 
-
 pub returns : goal.returns
 returns c = let a = c.args in let l = c.loop-u in
     let p : ℕ → Bool = λ v. contains a.watched v && has_mark_in a.marks.now v a.from a.n in
@@ -29,7 +28,7 @@ pub loop-u-preserved : goal.loop-u-preserved
 loop-u-preserved c = let l = c.loop-u in let a = c.args in
     let p : ℕ → Bool = λ v. contains a.watched v && has_mark_in a.marks.now v a.from a.n in
     let watched = sym c.contains.ensures in elim c.if-contains.branch [
-      then-contains+then-has_mark_in w ↦ (
+      | then-contains+then-has_mark_in w ↦ (
         omega arith,
         w.found-is ∙ w.with-found.ensures
             ∙ gathered p l.found l.u l.invariant.1

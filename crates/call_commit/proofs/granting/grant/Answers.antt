@@ -17,10 +17,10 @@ set_offsets-requires c =
     let own-still : let a = c.args in transaction_of c.put_lengths.new.state a.t ≡ transaction_of a.state.now a.t = let state = c in
     still-own _ _ _ _ _ _ state.requires.lands.small state.save_undo.ensures c.put_lengths.ensures in
     let raised = c.put_lengths.ensures in let state = c in (
-  raised.long,
-  state.requires.lands.small,
-  rw (own-still, raised.store, state.save_undo.ensures.store) state.requires.fits,
-)
+      raised.long,
+      state.requires.lands.small,
+      rw (own-still, raised.store, state.save_undo.ensures.store) state.requires.fits,
+    )
 
 pub returns : goal.returns
 returns c =

@@ -29,11 +29,11 @@ loop-u-preserved c = let at-loop = c in let l = at-loop.loop-u in
     let few : l.u < transaction_count = omega arith in let e = sym c.contains.ensures in (
       omega arith,
       elim c.if-contains.branch [
-      then-contains w ↦ stale-put at-loop.args.octet _ _ l.u few l.invariant.1 (e ∙ w.if-contains.true) _
-          (w.state-is ∙ w.put_stale.ensures)
-      | else-contains w ↦ stale-left at-loop.args.octet _ _ l.u few l.invariant.1
-          (e ∙ w.if-contains.false) _ w.state-is
-    ],
+        | then-contains w ↦ stale-put at-loop.args.octet _ _ l.u few l.invariant.1 (e ∙ w.if-contains.true) _
+            (w.state-is ∙ w.put_stale.ensures)
+        | else-contains w ↦ stale-left at-loop.args.octet _ _ l.u few l.invariant.1
+            (e ∙ w.if-contains.false) _ w.state-is
+      ],
     )
 
 pub returns : goal.returns

@@ -47,10 +47,10 @@ all_ready-requires c =
     let small_of : all_in (λ t. leb t last_transaction) c.args.list.now ≡ true = test-held c.all_small.ensures (ap not c.if-not-all_small.false) in
     let open_of : let a = c.args in all_in (λ t. (transaction_of a.state.now t).begun) a.list.now ≡ true = test-held c.all_open.ensures (ap not c.if-not-all_open.false) in
     let all-open-of : let a = c.args in AllOpen a.state.now a.list.now = λ k l. let start = c in let list = start.args.list.now in record {
-  ranges = start.requires;
-  small = small_at list k small_of l;
-  begun = all-at (λ t. (transaction_of start.args.state.now t).begun) list k open_of l;
-} in
+      ranges = start.requires;
+      small = small_at list k small_of l;
+      begun = all-at (λ t. (transaction_of start.args.state.now t).begun) list k open_of l;
+    } in
     all-open-of
 
 pub returns-then-not-all_ready : goal.returns-then-not-all_ready
@@ -61,12 +61,12 @@ returns-then-not-all_ready c =
     let open_of : let a = c.args in all_in (λ t. (transaction_of a.state.now t).begun) a.list.now ≡ true = test-held c.all_open.ensures (ap not c.if-not-all_open.false) in
     let minute-of : minute_in c.args.minute ≡ true = test-held c.minute_in.ensures (ap not c.if-not-minute_in.false) in
     let e = c in let d = e in let b = d in rw (
-  is-list-of,
-  small_of,
-  open_of,
-  minute-of,
-  failed c.all_ready.ensures (ap not c.if-not-all_ready.true),
-) refl
+      is-list-of,
+      small_of,
+      open_of,
+      minute-of,
+      failed c.all_ready.ensures (ap not c.if-not-all_ready.true),
+    ) refl
 
 pub returns-then-not-is_budget : goal.returns-then-not-is_budget
 unfolding gate_number list_refusal unless

@@ -27,9 +27,9 @@ loop-k-preserved c =
     let this : let l = c in let a = l.args in c.is_begun.result ≡ (transaction_of a.state.now (get_or a.list.now l.loop-k.k 0)).begun = c.is_begun.ensures ∙ ap (λ (t : ℕ). (transaction_of c.args.state.now t).begun)
     c.wide_octet.ensures.0 in
     let at-loop = c in (
-  omega arith,
-  all_more _ _ at-loop.loop-k.k (omega arith) at-loop.loop-k.invariant.1 (test-held this (ap not c.if-not-is_begun.false)),
-)
+      omega arith,
+      all_more _ _ at-loop.loop-k.k (omega arith) at-loop.loop-k.invariant.1 (test-held this (ap not c.if-not-is_begun.false)),
+    )
 
 pub returns : goal.returns
 returns c = sym (all_done _ _ c.loop-k.k (omega arith) c.loop-k.invariant.1)

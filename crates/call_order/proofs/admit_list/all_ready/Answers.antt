@@ -21,9 +21,9 @@ pub loop-k-preserved : goal.loop-k-preserved
 loop-k-preserved c =
     let this : let l = c in let a = l.args in c.is_ready.result ≡ is_ready a.state.now (get_or a.list.now l.loop-k.k 0) = c.is_ready.ensures ∙ ap (is_ready c.args.state.now) c.wide_octet.ensures.0 in
     let at-loop = c in (
-  omega arith,
-  all_more _ _ at-loop.loop-k.k (omega arith) at-loop.loop-k.invariant.1 (test-held this (ap not c.if-not-is_ready.false)),
-)
+      omega arith,
+      all_more _ _ at-loop.loop-k.k (omega arith) at-loop.loop-k.invariant.1 (test-held this (ap not c.if-not-is_ready.false)),
+    )
 
 pub returns : goal.returns
 returns c = sym (all_done _ _ c.loop-k.k (omega arith) c.loop-k.invariant.1)

@@ -19,9 +19,9 @@ pub record_at-w-requires : goal.record_at-w-requires
 record_at-w-requires c =
     let count_of : let a = c.args in c.used_at-used.result.records ≡ (transaction_of a.state.now a.t).used.records = ap (λ (u : Used). u.records) c.used_at-used.ensures in
     let at-loop = c in let start = at-loop in (
-  omega (arith, start.requires.small),
-  omega (arith, few-closing start.args.state.now start.args.t start.requires, count_of, c.loop-k-test.true),
-)
+      omega (arith, start.requires.small),
+      omega (arith, few-closing start.args.state.now start.args.t start.requires, count_of, c.loop-k-test.true),
+    )
 
 pub returns-in-After : goal.returns-in-After
 unfolding unplaced_in no_place

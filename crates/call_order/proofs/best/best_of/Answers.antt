@@ -40,22 +40,22 @@ loop-i-preserved c =
     let ts = take a.n a.numbers in let next = take a.n read.order_at-next.result in
     let more = c.grants_of-more.result in
     elim c.if-grants-more.branch [
-      then-grants-more w ↦ let e = takes-it G ts l.i inside (take a.n l.order) l.grants l.invariant.2 l.invariant.3
-    next more order_is c.grants_of-more.ensures w.if-grants-more.true in (
-      omega (arith, read.loop-i-test.true),
-      l.invariant.1,
-      ap (take a.n) w.order-is ∙ e.0,
-      w.grants-is ∙ e.1,
-      ap (drop a.n) w.order-is ∙ read.order_at-next.ensures.1,
-    )
+      | then-grants-more w ↦ let e = takes-it G ts l.i inside (take a.n l.order) l.grants l.invariant.2 l.invariant.3
+          next more order_is c.grants_of-more.ensures w.if-grants-more.true in (
+            omega (arith, read.loop-i-test.true),
+            l.invariant.1,
+            ap (take a.n) w.order-is ∙ e.0,
+            w.grants-is ∙ e.1,
+            ap (drop a.n) w.order-is ∙ read.order_at-next.ensures.1,
+          )
       | else-grants-more w ↦ let e = leaves-it G ts l.i inside (take a.n l.order) l.grants l.invariant.2 l.invariant.3 next
-    more order_is c.grants_of-more.ensures w.if-grants-more.false in (
-      omega (arith, read.loop-i-test.true),
-      l.invariant.1,
-      ap (take a.n) w.order-is ∙ e.0,
-      w.grants-is ∙ e.1,
-      ap (drop a.n) w.order-is ∙ l.invariant.4,
-    )
+          more order_is c.grants_of-more.ensures w.if-grants-more.false in (
+            omega (arith, read.loop-i-test.true),
+            l.invariant.1,
+            ap (take a.n) w.order-is ∙ e.0,
+            w.grants-is ∙ e.1,
+            ap (drop a.n) w.order-is ∙ l.invariant.4,
+          )
     ]
 
 pub returns : goal.returns

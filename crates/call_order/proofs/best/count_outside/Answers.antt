@@ -21,18 +21,18 @@ loop-k-preserved c = let read = c in let at-loop = read in let l = at-loop.loop-
     let a = at-loop.args in
     let test = ap not (sym (c.contains.ensures ∙ ap (contains a.octet) read.wide_octet.ensures.0)) in
     elim c.if-not-contains.branch [
-      then-not-contains w ↦ (
-      omega arith,
-      omega (arith, l.invariant.1, w.n-is),
-      subst (λ (n : ℕ). CountLeft (outside a.octet) a.list.now n (l.k + 1)) (sym w.n-is)
-          (count-one (outside a.octet) a.list.now l.n l.k (omega arith) l.invariant.2 (test ∙ (ap not w.if-not-contains.true))),
-    )
+      | then-not-contains w ↦ (
+        omega arith,
+        omega (arith, l.invariant.1, w.n-is),
+        subst (λ (n : ℕ). CountLeft (outside a.octet) a.list.now n (l.k + 1)) (sym w.n-is)
+            (count-one (outside a.octet) a.list.now l.n l.k (omega arith) l.invariant.2 (test ∙ (ap not w.if-not-contains.true))),
+      )
       | else-not-contains w ↦ (
-      omega arith,
-      omega (arith, l.invariant.1, w.n-is),
-      subst (λ (n : ℕ). CountLeft (outside a.octet) a.list.now n (l.k + 1)) (sym w.n-is)
-          (count_none (outside a.octet) a.list.now l.n l.k (omega arith) l.invariant.2 (test ∙ (ap not w.if-not-contains.false))),
-    )
+        omega arith,
+        omega (arith, l.invariant.1, w.n-is),
+        subst (λ (n : ℕ). CountLeft (outside a.octet) a.list.now n (l.k + 1)) (sym w.n-is)
+            (count_none (outside a.octet) a.list.now l.n l.k (omega arith) l.invariant.2 (test ∙ (ap not w.if-not-contains.false))),
+      )
     ]
 
 pub returns : goal.returns

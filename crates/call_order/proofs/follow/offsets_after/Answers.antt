@@ -52,12 +52,12 @@ loop-d-preserved c =
     let x = descriptors_in a.state.now a.t in (
       omega arith,
       elim c.if-sets_offset.branch [
-      then-sets_offset w ↦ w.after-is ∙ ap (λ (xs : List ℕ). set xs l.d w.final_offset.result) l.invariant.1 ∙ filled-set
-          (offset-after x a.offsets) a.offsets l.d w.final_offset.result (omega arith) (set_so x a.offsets l.d w.final_offset.result
-          (sets-is ∙ w.if-sets_offset.true) (w.final_offset.ensures ∙ ap (final_offset (get_or a.offsets l.d 0)) standing-is))
-      | else-sets_offset w ↦ w.after-is ∙ l.invariant.1 ∙ filled-preserved (offset-after x a.offsets) a.offsets l.d 0 (omega arith)
-          (left_so x a.offsets l.d (sets-is ∙ w.if-sets_offset.false))
-    ],
+        | then-sets_offset w ↦ w.after-is ∙ ap (λ (xs : List ℕ). set xs l.d w.final_offset.result) l.invariant.1 ∙ filled-set
+            (offset-after x a.offsets) a.offsets l.d w.final_offset.result (omega arith) (set_so x a.offsets l.d w.final_offset.result
+            (sets-is ∙ w.if-sets_offset.true) (w.final_offset.ensures ∙ ap (final_offset (get_or a.offsets l.d 0)) standing-is))
+        | else-sets_offset w ↦ w.after-is ∙ l.invariant.1 ∙ filled-preserved (offset-after x a.offsets) a.offsets l.d 0 (omega arith)
+            (left_so x a.offsets l.d (sets-is ∙ w.if-sets_offset.false))
+      ],
       l.invariant.2,
     )
 

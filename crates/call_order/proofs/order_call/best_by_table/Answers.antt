@@ -42,11 +42,11 @@ best_of-b-requires c =
     let few : length c.args.list.now ≤ transaction_count = few-listed c.args.list.now listed.list in
     let tried-few : c.smaller-tried.result ≤ factorial (length c.args.list.now) = omega (arith, c.smaller-tried.ensures, c.factorial-all.ensures) in
     let start = c in (
-  few,
-  tried-few,
-  subst (λ (ts : List ℕ). all_in (λ t. leb t last_transaction) ts ≡ true) (sym c.numbers_of.ensures.0) listed.small,
-  c.numbers_of.ensures.1,
-)
+      few,
+      tried-few,
+      subst (λ (ts : List ℕ). all_in (λ t. leb t last_transaction) ts ≡ true) (sym c.numbers_of.ensures.0) listed.small,
+      c.numbers_of.ensures.1,
+    )
 
 pub gap_of-gap-requires : goal.gap_of-gap-requires
 gap_of-gap-requires c =

@@ -25,7 +25,7 @@ pub admit_list-verdict-requires : goal.admit_list-verdict-requires
 admit_list-verdict-requires c =
     let machine : Machine = machine_of c.args.state.now c.args.files.now c.args.logs.now c.args.marks.now c.args.undo.now in
     let passed : let m = machine in first_tests (sizes m) m.store m.journal 0 ≡ 0 = gate-zero _ _ c.first_tests-gate.ensures.gate c.in_default.is in
-        (first-zero _ _ _ 0 passed).1
+    (first-zero _ _ _ 0 passed).1
 
 pub returns-in-Refused-verdict : goal.returns-in-Refused-verdict
 unfolding order_part
@@ -43,7 +43,6 @@ returns-in-Refused-verdict c =
 pub overflow_cast-minute : goal.overflow_cast-minute
 overflow_cast-minute c =
     let admitted : let a = c.args in list_refusal a.state.now a.list.now a.minute a.budget ≡ 0 = gate-zero _ _ c.admit_list-verdict.ensures c.in_default-verdict.is in
-   
     let a = c.args in
     omega (arith, minute-most a.minute (list-in a.state.now a.list.now a.minute a.budget admitted).daily)
 
@@ -60,11 +59,10 @@ returns c =
     let passed : let m = machine in first_tests (sizes m) m.store m.journal 0 ≡ 0 = gate-zero _ _ c.first_tests-gate.ensures.gate c.in_default.is in
     let admitted : let a = c.args in list_refusal a.state.now a.list.now a.minute a.budget ≡ 0 = gate-zero _ _ c.admit_list-verdict.ensures c.in_default-verdict.is in
     let asking : let s = c in Asking machine s.args.list.now s.args.minute s.args.budget = let a = c.args in record {
-  admitted = passed;
-  passed = sym (refusal_is a.state.now a.files.now a.logs.now a.marks.now a.undo.now a.list.now
-      a.minute a.budget) ∙ admitted;
-} in
-   
+      admitted = passed;
+      passed = sym (refusal_is a.state.now a.files.now a.logs.now a.marks.now a.undo.now a.list.now
+          a.minute a.budget) ∙ admitted;
+    } in
     let told = c in
     let start = told in
     let a = start.args in

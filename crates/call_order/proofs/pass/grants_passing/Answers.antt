@@ -17,11 +17,11 @@ contains-requires c =
     let member : let a = c.args in c.wide_octet-t.result ≡ get_or (take a.n a.order) c.loop-k.k 0 = let a = c.args in
     c.wide_octet-t.ensures.0 ∙ sym (get_or-take a.n a.order c.loop-k.k 0 (omega arith)) in
     let small : c.wide_octet-t.result < transaction_count = let start = c in let l = c.loop-k in omega (
-  arith,
-  member,
-  small_at (take start.args.n start.args.order) l.k start.requires.1
-      (omega (arith, l.invariant.2, c.loop-k-test.true)),
-) in
+      arith,
+      member,
+      small_at (take start.args.n start.args.order) l.k start.requires.1
+          (omega (arith, l.invariant.2, c.loop-k-test.true)),
+    ) in
     small
 
 pub bounds-table-t : goal.bounds-table-t
@@ -29,11 +29,11 @@ bounds-table-t c =
     let member : let a = c.args in c.wide_octet-t.result ≡ get_or (take a.n a.order) c.loop-k.k 0 = let a = c.args in
     c.wide_octet-t.ensures.0 ∙ sym (get_or-take a.n a.order c.loop-k.k 0 (omega arith)) in
     let small : c.wide_octet-t.result < transaction_count = let start = c in let l = c.loop-k in omega (
-  arith,
-  member,
-  small_at (take start.args.n start.args.order) l.k start.requires.1
-      (omega (arith, l.invariant.2, c.loop-k-test.true)),
-) in
+      arith,
+      member,
+      small_at (take start.args.n start.args.order) l.k start.requires.1
+          (omega (arith, l.invariant.2, c.loop-k-test.true)),
+    ) in
     small
 
 pub loop-k-preserved : goal.loop-k-preserved
@@ -43,22 +43,22 @@ loop-k-preserved c =
     let read = c in let at-loop = read in let l = at-loop.loop-k in
     let a = at-loop.args in let o = take a.n a.order in let t = read.wide_octet-t.result in
     let left : l.k < length o = omega (arith, l.invariant.2, read.loop-k-test.true) in elim c.if-not-contains.branch [
-      then-not-contains w ↦ (
-      omega (arith, read.loop-k-test.true),
-      omega (arith, l.invariant.1, w.grants-is),
-      l.invariant.2,
-      ap₂ (λ (s g : ℕ). pass_all (row a.table) (drop (l.k + 1) o) (short s g)) w.skipped-is w.grants-is
-          ∙ sym (pass-granted (row a.table) o l.k t l.skipped l.grants left member
-          (failed c.contains.ensures (ap not w.if-not-contains.true))) ∙ l.invariant.3,
-    )
+      | then-not-contains w ↦ (
+        omega (arith, read.loop-k-test.true),
+        omega (arith, l.invariant.1, w.grants-is),
+        l.invariant.2,
+        ap₂ (λ (s g : ℕ). pass_all (row a.table) (drop (l.k + 1) o) (short s g)) w.skipped-is w.grants-is
+            ∙ sym (pass-granted (row a.table) o l.k t l.skipped l.grants left member
+            (failed c.contains.ensures (ap not w.if-not-contains.true))) ∙ l.invariant.3,
+      )
       | else-not-contains w ↦ (
-      omega (arith, read.loop-k-test.true),
-      omega (arith, l.invariant.1, w.grants-is),
-      l.invariant.2,
-      ap₂ (λ (s g : ℕ). pass_all (row a.table) (drop (l.k + 1) o) (short s g)) w.skipped-is w.grants-is
-          ∙ sym (pass-skipped (row a.table) o l.k t l.skipped l.grants left member
-          (test-held c.contains.ensures (ap not w.if-not-contains.false))) ∙ l.invariant.3,
-    )
+        omega (arith, read.loop-k-test.true),
+        omega (arith, l.invariant.1, w.grants-is),
+        l.invariant.2,
+        ap₂ (λ (s g : ℕ). pass_all (row a.table) (drop (l.k + 1) o) (short s g)) w.skipped-is w.grants-is
+            ∙ sym (pass-skipped (row a.table) o l.k t l.skipped l.grants left member
+            (test-held c.contains.ensures (ap not w.if-not-contains.false))) ∙ l.invariant.3,
+      )
     ]
 
 pub returns : goal.returns

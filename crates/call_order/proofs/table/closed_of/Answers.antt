@@ -21,7 +21,7 @@ loop-t-preserved c = let at-loop = c in let a = at-loop.args in let l = at-loop.
   λ logs long. let p = shut_at a.state.now logs a.minute in
       let test = sym (c.is_closed.ensures logs long) in
       elim c.if-is_closed.branch [
-      then-is_closed w ↦ w.closed-is ∙ w.with-closed.ensures ∙ gathered p l.closed l.t (l.invariant.1 logs long) (test ∙ w.if-is_closed.true)
-      | else-is_closed w ↦ w.closed-is ∙ passed-by p l.closed l.t (l.invariant.1 logs long) (test ∙ w.if-is_closed.false)
-    ],
+        | then-is_closed w ↦ w.closed-is ∙ w.with-closed.ensures ∙ gathered p l.closed l.t (l.invariant.1 logs long) (test ∙ w.if-is_closed.true)
+        | else-is_closed w ↦ w.closed-is ∙ passed-by p l.closed l.t (l.invariant.1 logs long) (test ∙ w.if-is_closed.false)
+      ],
 )

@@ -16,7 +16,6 @@ waits-requires c = let at-loop = c in let start = at-loop in
 pub returns-then-waits : goal.returns-then-waits
 returns-then-waits c =
     let this : let l = c in let a = l.args in c.waits.result ≡ waits_in a.state.now (get_or a.list.now l.loop-k.k 0) = c.waits.ensures ∙ ap (waits_in c.args.state.now) c.wide_octet.ensures.0 in
-   
     let at-loop = c in
     sym (all-fails _ _ at-loop.loop-k.k (omega arith) at-loop.loop-k.invariant.1 (ap not (sym this ∙ c.if-waits.true)))
 
@@ -24,9 +23,9 @@ pub loop-k-preserved : goal.loop-k-preserved
 loop-k-preserved c =
     let this : let l = c in let a = l.args in c.waits.result ≡ waits_in a.state.now (get_or a.list.now l.loop-k.k 0) = c.waits.ensures ∙ ap (waits_in c.args.state.now) c.wide_octet.ensures.0 in
     let at-loop = c in (
-  omega arith,
-  all_more _ _ at-loop.loop-k.k (omega arith) at-loop.loop-k.invariant.1 (ap not (sym this ∙ c.if-waits.false)),
-)
+      omega arith,
+      all_more _ _ at-loop.loop-k.k (omega arith) at-loop.loop-k.invariant.1 (ap not (sym this ∙ c.if-waits.false)),
+    )
 
 pub returns : goal.returns
 returns c = sym (all_done _ _ c.loop-k.k (omega arith) c.loop-k.invariant.1)

@@ -97,13 +97,13 @@ room-verdict-requires c =
     let admits : let start = c in let m = machine in admission (sizes m) m.store m.journal start.args.t ≡ 0 = let start = c in
     admission-open machine start.args.t passed begun in
     let reached : let a = c.args in WriteReached a.t a.d a.state.now a.files.now a.logs.now a.marks.now a.undo.now c.standing_at-standing.result c.used_at-used.result = record {
-  low = c.if-d-gt-LAST_DESCRIPTOR.false;
-  passes = admits;
-  through = let_through;
-  begun = begun;
-  reads-standing = c.standing_at-standing.ensures;
-  reads-used = c.used_at-used.ensures;
-} in
+      low = c.if-d-gt-LAST_DESCRIPTOR.false;
+      passes = admits;
+      through = let_through;
+      begun = begun;
+      reads-standing = c.standing_at-standing.ensures;
+      reads-used = c.used_at-used.ensures;
+    } in
     let small : c.args.t < transaction_count = let_through.small in
     rw c.write_place.ensures (numbers-within reached)
 
@@ -120,13 +120,13 @@ returns-in-Refused-verdict c =
     let admits : let start = c in let m = machine in admission (sizes m) m.store m.journal start.args.t ≡ 0 = let start = c in
     admission-open machine start.args.t passed begun in
     let reached : let a = c.args in WriteReached a.t a.d a.state.now a.files.now a.logs.now a.marks.now a.undo.now c.standing_at-standing.result c.used_at-used.result = record {
-  low = c.if-d-gt-LAST_DESCRIPTOR.false;
-  passes = admits;
-  through = let_through;
-  begun = begun;
-  reads-standing = c.standing_at-standing.ensures;
-  reads-used = c.used_at-used.ensures;
-} in
+      low = c.if-d-gt-LAST_DESCRIPTOR.false;
+      passes = admits;
+      through = let_through;
+      begun = begun;
+      reads-standing = c.standing_at-standing.ensures;
+      reads-used = c.used_at-used.ensures;
+    } in
     let refusal : let place = c in gate_number c.room-verdict.result ≡ write_refusal (write_place place.standing_at-standing.result) place.used_at-used.result (length place.args.bytes.now) = rw c.write_place.ensures at c.room-verdict.ensures in
     let small : c.args.t < transaction_count = let_through.small in
     let place = c in let r = c.in-Refused-verdict.r in
@@ -158,12 +158,12 @@ copy_to-requires c =
     let room_of : let place = c in WriteRoom (write_place place.standing_at-standing.result) place.used_at-used.result (length place.args.bytes.now) = room-left _ _ _ (gate-zero _ _ refusal c.in_default-verdict.is) in
     let small : c.args.t < transaction_count = let_through.small in
     let told = c in omega (
-  arith,
-  small,
-  room_of.log,
-  c.wide.ensures.0,
-  let_through.lengths.logs,
-)
+      arith,
+      small,
+      room_of.log,
+      c.wide.ensures.0,
+      let_through.lengths.logs,
+    )
 
 pub overflow_cast-bytes : goal.overflow_cast-bytes
 overflow_cast-bytes c =
@@ -184,22 +184,22 @@ put_write-requires c =
     let admits : let start = c in let m = machine in admission (sizes m) m.store m.journal start.args.t ≡ 0 = let start = c in
     admission-open machine start.args.t passed begun in
     let reached : let a = c.args in WriteReached a.t a.d a.state.now a.files.now a.logs.now a.marks.now a.undo.now c.standing_at-standing.result c.used_at-used.result = record {
-  low = c.if-d-gt-LAST_DESCRIPTOR.false;
-  passes = admits;
-  through = let_through;
-  begun = begun;
-  reads-standing = c.standing_at-standing.ensures;
-  reads-used = c.used_at-used.ensures;
-} in
+      low = c.if-d-gt-LAST_DESCRIPTOR.false;
+      passes = admits;
+      through = let_through;
+      begun = begun;
+      reads-standing = c.standing_at-standing.ensures;
+      reads-used = c.used_at-used.ensures;
+    } in
     let refusal : let place = c in gate_number c.room-verdict.result ≡ write_refusal (write_place place.standing_at-standing.result) place.used_at-used.result (length place.args.bytes.now) = rw c.write_place.ensures at c.room-verdict.ensures in
     let room_of : let place = c in WriteRoom (write_place place.standing_at-standing.result) place.used_at-used.result (length place.args.bytes.now) = room-left _ _ _ (gate-zero _ _ refusal c.in_default-verdict.is) in
     let small : c.args.t < transaction_count = let_through.small in
     let told = c in let place = told in record {
       state_len = (
-    place.admit-gate.ensures.long,
-    small,
-    omega (arith, place.if-d-gt-LAST_DESCRIPTOR.false),
-  );
+        place.admit-gate.ensures.long,
+        small,
+        omega (arith, place.if-d-gt-LAST_DESCRIPTOR.false),
+      );
       write_room = (room_of, standing-within reached);
     }
 
@@ -216,13 +216,13 @@ returns c =
     let admits : let start = c in let m = machine in admission (sizes m) m.store m.journal start.args.t ≡ 0 = let start = c in
     admission-open machine start.args.t passed begun in
     let reached : let a = c.args in WriteReached a.t a.d a.state.now a.files.now a.logs.now a.marks.now a.undo.now c.standing_at-standing.result c.used_at-used.result = record {
-  low = c.if-d-gt-LAST_DESCRIPTOR.false;
-  passes = admits;
-  through = let_through;
-  begun = begun;
-  reads-standing = c.standing_at-standing.ensures;
-  reads-used = c.used_at-used.ensures;
-} in
+      low = c.if-d-gt-LAST_DESCRIPTOR.false;
+      passes = admits;
+      through = let_through;
+      begun = begun;
+      reads-standing = c.standing_at-standing.ensures;
+      reads-used = c.used_at-used.ensures;
+    } in
     let refusal : let place = c in gate_number c.room-verdict.result ≡ write_refusal (write_place place.standing_at-standing.result) place.used_at-used.result (length place.args.bytes.now) = rw c.write_place.ensures at c.room-verdict.ensures in
     let room_of : let place = c in WriteRoom (write_place place.standing_at-standing.result) place.used_at-used.result (length place.args.bytes.now) = room-left _ _ _ (gate-zero _ _ refusal c.in_default-verdict.is) in
     let small : c.args.t < transaction_count = let_through.small in

@@ -41,11 +41,11 @@ loop-k-preserved c =
     let stood = c.wide.ensures.0 ∙ ap (λ (xs : List ℕ). get_or xs f 0) l.invariant.1 in (
       omega (arith, landing.loop-k-test.true),
       elim c.if-wide-end.branch [
-      then-wide-end w ↦ w.out-is ∙ ap (λ (xs : List ℕ). set xs f end) l.invariant.1
-          ∙ landed-lengths-more s.filenumbers s.offsets (journal_of state) start.args.t s.lengths l.k f end
-          end file-in lands.file ends (omega (arith, stood, w.if-wide-end.true))
-      | else-wide-end w ↦ w.out-is ∙ l.invariant.1
-          ∙ lengths-still s.filenumbers s.offsets (journal_of state) start.args.t s.lengths l.k f end
-          file-in lands.file ends (omega (arith, stood, w.if-wide-end.false))
-    ],
+        | then-wide-end w ↦ w.out-is ∙ ap (λ (xs : List ℕ). set xs f end) l.invariant.1
+            ∙ landed-lengths-more s.filenumbers s.offsets (journal_of state) start.args.t s.lengths l.k f end
+            end file-in lands.file ends (omega (arith, stood, w.if-wide-end.true))
+        | else-wide-end w ↦ w.out-is ∙ l.invariant.1
+            ∙ lengths-still s.filenumbers s.offsets (journal_of state) start.args.t s.lengths l.k f end
+            file-in lands.file ends (omega (arith, stood, w.if-wide-end.false))
+      ],
     )

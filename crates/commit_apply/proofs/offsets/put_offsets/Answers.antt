@@ -38,8 +38,8 @@ loop-d-preserved c = let l = c.loop-d in
     let e = sym c.sets_offset.ensures in (
       omega arith,
       elim c.if-sets_offset.branch [
-      then-sets_offset w ↦ offset-put x _ _ l.d few l.invariant.1 (e ∙ w.if-sets_offset.true) _ _ _ w.offset_at-c.ensures w.final_offset.ensures
-          (w.state-is ∙ w.put_offset.ensures)
-      | else-sets_offset w ↦ offset-left x _ _ l.d few l.invariant.1 (e ∙ w.if-sets_offset.false) _ w.state-is
-    ],
+        | then-sets_offset w ↦ offset-put x _ _ l.d few l.invariant.1 (e ∙ w.if-sets_offset.true) _ _ _ w.offset_at-c.ensures w.final_offset.ensures
+            (w.state-is ∙ w.put_offset.ensures)
+        | else-sets_offset w ↦ offset-left x _ _ l.d few l.invariant.1 (e ∙ w.if-sets_offset.false) _ w.state-is
+      ],
     )

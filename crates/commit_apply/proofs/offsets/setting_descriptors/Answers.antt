@@ -29,9 +29,9 @@ loop-d-preserved c = let l = c.loop-d in let a = c.args in
     let read : Bool → Descriptor = λ b. cond b (descriptor_of a.state.now a.t l.d) no_descriptor in (
       omega arith,
       elim c.if-sets_offset_at.branch [
-      then-sets_offset_at w ↦ w.all-is ∙ ap (λ (xs : List Descriptor). set xs l.d w.descriptor_at-q.result) l.invariant.1
-          ∙ filled-set _ _ l.d w.descriptor_at-q.result (omega arith) (w.descriptor_at-q.ensures ∙ sym (is ∙ ap read w.if-sets_offset_at.true))
-      | else-sets_offset_at w ↦ w.all-is ∙ l.invariant.1 ∙ filled-preserved _ (replicate 16 no_descriptor) l.d no_descriptor (omega arith) (is
-          ∙ ap read w.if-sets_offset_at.false ∙ sym (get_or-replicate 16 l.d no_descriptor no_descriptor (omega arith)))
-    ],
+        | then-sets_offset_at w ↦ w.all-is ∙ ap (λ (xs : List Descriptor). set xs l.d w.descriptor_at-q.result) l.invariant.1
+            ∙ filled-set _ _ l.d w.descriptor_at-q.result (omega arith) (w.descriptor_at-q.ensures ∙ sym (is ∙ ap read w.if-sets_offset_at.true))
+        | else-sets_offset_at w ↦ w.all-is ∙ l.invariant.1 ∙ filled-preserved _ (replicate 16 no_descriptor) l.d no_descriptor (omega arith) (is
+            ∙ ap read w.if-sets_offset_at.false ∙ sym (get_or-replicate 16 l.d no_descriptor no_descriptor (omega arith)))
+      ],
     )

@@ -29,16 +29,16 @@ loop-f-preserved c = let at-loop = c in let a = at-loop.args in
     let now-at : (n : ℕ) → at-loop.lengths_after-after.result ≡ lengths_landed_in a.state.now a.t n
     → get_or at-loop.lengths_after-after.result l.f 0 ≡ get_or (lengths_landed_in a.state.now a.t n) l.f 0 =
     λ n e. ap (λ (xs : List ℕ). get_or xs l.f 0) e in elim c.if-length_at-after.branch [
-      then-length_at-after w ↦ (
-      omega arith,
-      λ n files logs marks can e size. length_more a.state.now marks a.watched files logs a.t n can size l.f
-          few _ _ c.length_at.ensures (now-at n e) w.if-length_at-after.true _ _ _ (l.invariant.1 n files logs marks can e
-          size) w.sighted_by.ensures (λ u. ap (λ (k : ℕ). contains k u) w.found-is ∙ w.joined-found.ensures u),
-    )
+      | then-length_at-after w ↦ (
+        omega arith,
+        λ n files logs marks can e size. length_more a.state.now marks a.watched files logs a.t n can size l.f
+            few _ _ c.length_at.ensures (now-at n e) w.if-length_at-after.true _ _ _ (l.invariant.1 n files logs marks can e
+            size) w.sighted_by.ensures (λ u. ap (λ (k : ℕ). contains k u) w.found-is ∙ w.joined-found.ensures u),
+      )
       | else-length_at-after w ↦ (
-      omega arith,
-      λ n files logs marks can e size. rw w.found-is
-          (length-less a.state.now marks a.watched files logs a.t n can size l.f few _ _
-          c.length_at.ensures (now-at n e) w.if-length_at-after.false _ (l.invariant.1 n files logs marks can e size)),
-    )
+        omega arith,
+        λ n files logs marks can e size. rw w.found-is
+            (length-less a.state.now marks a.watched files logs a.t n can size l.f few _ _
+            c.length_at.ensures (now-at n e) w.if-length_at-after.false _ (l.invariant.1 n files logs marks can e size)),
+      )
     ]

@@ -19,6 +19,6 @@ loop-u-preserved c = let at-loop = c in let a = at-loop.args in
     let test = sym (ap₂ ◌&&◌ c.contains.ensures (c.has_bit.ensures
     ∙ ap (λ (n : ℕ). contains n a.f) c.lengthmarks_at.ensures)) in
     elim c.if-contains-has_bit.branch [
-      then-contains-has_bit w ↦ (omega arith, w.found-is ∙ w.with-found.ensures ∙ gathered p l.found l.u l.invariant.1 (test ∙ w.if-contains-has_bit.true))
+      | then-contains-has_bit w ↦ (omega arith, w.found-is ∙ w.with-found.ensures ∙ gathered p l.found l.u l.invariant.1 (test ∙ w.if-contains-has_bit.true))
       | else-contains-has_bit w ↦ (omega arith, w.found-is ∙ passed-by p l.found l.u l.invariant.1 (test ∙ w.if-contains-has_bit.false))
     ]

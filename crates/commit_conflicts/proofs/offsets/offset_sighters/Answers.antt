@@ -29,7 +29,7 @@ loop-d-preserved c = let at-loop = c in let a = at-loop.args in
     let few : l.d < descriptor_count = omega arith in
     let sets = sets-is a.state.now a.t l.d few (descriptor_of a.state.now a.t l.d) refl
     ∙ sym c.sets_offset_at.ensures in elim c.if-sets_offset_at.branch [
-      then-sets_offset_at w ↦ (
+      | then-sets_offset_at w ↦ (
         omega arith,
         λ marks v. offset-more a.state.now marks a.watched v x l.d (sets ∙ w.if-sets_offset_at.true) _ _ _ (l.invariant.1 marks v)
             w.settled_by.ensures (λ u. ap (λ (n : ℕ). contains n u) w.found-is ∙ w.joined-found.ensures u),

@@ -18,6 +18,6 @@ loop-u-preserved c = let at-loop = c in let a = at-loop.args in let l = at-loop.
     let p = knows_offset a.state.now a.watched a.d in
     let test = sym (ap₂ ◌&&◌ c.contains.ensures c.is_known_at.ensures) in
     elim c.if-contains-is_known_at.branch [
-      then-contains-is_known_at w ↦ (omega arith, w.found-is ∙ w.with-found.ensures ∙ gathered p l.found l.u l.invariant.1 (test ∙ w.if-contains-is_known_at.true))
+      | then-contains-is_known_at w ↦ (omega arith, w.found-is ∙ w.with-found.ensures ∙ gathered p l.found l.u l.invariant.1 (test ∙ w.if-contains-is_known_at.true))
       | else-contains-is_known_at w ↦ (omega arith, w.found-is ∙ passed-by p l.found l.u l.invariant.1 (test ∙ w.if-contains-is_known_at.false))
     ]

@@ -57,7 +57,7 @@ loop-k-preserved c =
     let placed = one_placed _ _ _ _ _ so_far small few w looked.record_at-w.ensures in (
       omega arith,
       elim c.match-place.branch [
-        in-After+then-chosen-d v ↦ placed _ _ (v.state-is ∙ v.put_record.ensures) (after-settled _ _ w _ v.wide-d.ensures.0 _
+        | in-After+then-chosen-d v ↦ placed _ _ (v.state-is ∙ v.put_record.ensures) (after-settled _ _ w _ v.wide-d.ensures.0 _
             v.in-After.is v.if-chosen-d.true _ (v.offset_at-c.ensures ∙ offset-preserved _ _ _ _ _ so_far _))
         | in-After+else-chosen-d v ↦ state _ v.state-is (after-preserved _ _ w _ v.wide-d.ensures.0 v.if-chosen-d.false)
         | in_default v ↦ state _ v.state-is (after-placed _ _ w _ v.in_default.is)

@@ -35,18 +35,18 @@ loop-e-preserved c = let l = c.loop-e in let start = c in let a = start.args in
     let h : e < length x.descriptors = omega (arith, start.requires.sixteen) in (
       omega arith,
       elim c.if-chosen-e.branch [
-      then-chosen-e+else-c-advance w ↦ w.y-is ∙ ap (λ (y : Transaction). with_descriptors (set y.descriptors e
-          (record { standing = w.settled.result; dirty = dirty_at x e })) y) l.invariant.1 ∙ ap (λ (z : Standing). with_descriptors
-          (set (settled_front a.chosen offsets x e).descriptors e (record { standing = z; dirty = dirty_at x e })) x)
-          (w.settled.ensures ∙ ap (λ (o : ℕ). settled o (standing_at x e)) w.offset_at-c.ensures) ∙ settled-more a.chosen offsets x e h
-          w.if-chosen-e.true
-      | else-chosen-e w ↦ w.y-is ∙ l.invariant.1 ∙ settled-preserved a.chosen offsets x e h w.if-chosen-e.false
-    ],
+        | then-chosen-e+else-c-advance w ↦ w.y-is ∙ ap (λ (y : Transaction). with_descriptors (set y.descriptors e
+            (record { standing = w.settled.result; dirty = dirty_at x e })) y) l.invariant.1 ∙ ap (λ (z : Standing). with_descriptors
+            (set (settled_front a.chosen offsets x e).descriptors e (record { standing = z; dirty = dirty_at x e })) x)
+            (w.settled.ensures ∙ ap (λ (o : ℕ). settled o (standing_at x e)) w.offset_at-c.ensures) ∙ settled-more a.chosen offsets x e h
+            w.if-chosen-e.true
+        | else-chosen-e w ↦ w.y-is ∙ l.invariant.1 ∙ settled-preserved a.chosen offsets x e h w.if-chosen-e.false
+      ],
       below_more (settles_within a.chosen offsets x) e l.invariant.2 (elim c.if-chosen-e.branch [
-      then-chosen-e+else-c-advance w ↦ within-settled a.chosen offsets x e
-          (omega (arith, w.offset_at-c.ensures, w.advance.ensures, w.if-c-advance.false, start.requires.committed e (omega arith)))
-      | else-chosen-e w ↦ within-preserved a.chosen offsets x e w.if-chosen-e.false
-    ]),
+        | then-chosen-e+else-c-advance w ↦ within-settled a.chosen offsets x e
+            (omega (arith, w.offset_at-c.ensures, w.advance.ensures, w.if-c-advance.false, start.requires.committed e (omega arith)))
+        | else-chosen-e w ↦ within-preserved a.chosen offsets x e w.if-chosen-e.false
+      ]),
     )
 
 pub returns : goal.returns

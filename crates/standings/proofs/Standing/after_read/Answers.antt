@@ -5,7 +5,7 @@ use borrow.Author.Rules.{rules}
 use Rattle.standings.proofs.Standing.after_read.Goals as goal
 
 pub returns-in-Untouched : goal.returns-in-Untouched
-returns-in-Untouched c =     unfold after_read in rw c.in-Untouched.is
+returns-in-Untouched c = unfold after_read in rw c.in-Untouched.is
 
 pub returns-in-Placed : goal.returns-in-Placed
 returns-in-Placed c = unfold after_read in rw c.in-Placed.is

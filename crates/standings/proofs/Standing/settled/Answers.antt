@@ -8,7 +8,7 @@ pub returns-in-Untouched : goal.returns-in-Untouched
 returns-in-Untouched c = unfold settled in rw c.in-Untouched.is
 
 pub returns-in-Placed : goal.returns-in-Placed
-returns-in-Placed c =     unfold settled in rw c.in-Placed.is
+returns-in-Placed c = unfold settled in rw c.in-Placed.is
 
 pub returns-in-Deferred : goal.returns-in-Deferred
 returns-in-Deferred c = unfold settled in rw c.in-Deferred.is

@@ -31,11 +31,11 @@ pub loop-d-preserved : goal.loop-d-preserved
 loop-d-preserved c = let l = c.loop-d in (
   omega arith,
   elim c.if-not-is_blank_at.branch [
-      then-not-is_blank_at w ↦ w.all-is ∙ ap (λ (xs : List Descriptor). set xs l.d w.descriptor_at-q.result) l.invariant.1
-      ∙ filled-set _ _ l.d w.descriptor_at-q.result (omega arith) w.descriptor_at-q.ensures
-      | else-not-is_blank_at w ↦ w.all-is ∙ blank_stands _ l.d _
-      (omega arith) (c.is_blank_at.ensures w.if-not-is_blank_at.false) l.invariant.1
-    ],
+    | then-not-is_blank_at w ↦ w.all-is ∙ ap (λ (xs : List Descriptor). set xs l.d w.descriptor_at-q.result) l.invariant.1
+        ∙ filled-set _ _ l.d w.descriptor_at-q.result (omega arith) w.descriptor_at-q.ensures
+    | else-not-is_blank_at w ↦ w.all-is ∙ blank_stands _ l.d _
+        (omega arith) (c.is_blank_at.ensures w.if-not-is_blank_at.false) l.invariant.1
+  ],
 )
 
 pub returns : goal.returns

@@ -17,8 +17,8 @@ unfolding with_chosen_at
 loop-e-preserved c = let l = c.loop-e in (
   omega arith,
   elim c.if-chosen-e.branch [
-      then-chosen-e w ↦ w.state-is ∙ w.put_descriptor.ensures ∙ rw (l.invariant.1, add-one, w.if-chosen-e.true)
-      | else-chosen-e w ↦ w.state-is
-      ∙ rw (l.invariant.1, add-one, w.if-chosen-e.false)
-    ],
+    | then-chosen-e w ↦ w.state-is ∙ w.put_descriptor.ensures ∙ rw (l.invariant.1, add-one, w.if-chosen-e.true)
+    | else-chosen-e w ↦ w.state-is
+        ∙ rw (l.invariant.1, add-one, w.if-chosen-e.false)
+  ],
 )

@@ -538,14 +538,13 @@ static inline u8 code(answer a, u8 kind) {
     return a >= REFUSED ? 10 + (a - REFUSED) : codes[kind];
 }
 
-// Runs a script so many rounds, and answers the sum of the numbers that the calls answered. `stamps` is not used here.
+// Runs a script so many rounds, and answers the sum of the numbers that the calls answered.
 u64 c_store_run(u16 *kept, u8 *files, size_t files_length, u8 *logs, size_t logs_length, u8 *marks, size_t marks_length, u8 *undo,
                 size_t undo_length, const u8 *script, size_t script_length, const u8 *data, size_t data_length, u8 *reader,
-                size_t reader_length, u8 *said, size_t said_length, int64_t *stamps, size_t stamps_length, size_t rounds) {
+                size_t reader_length, u8 *said, size_t said_length, size_t rounds) {
     Lent lent = {(Store *)kept, files, logs, marks, undo, files_length, logs_length, marks_length, undo_length};
     Sides sides = {data, data_length, reader, reader_length};
     u64 sum = 0;
-    (void)stamps, (void)stamps_length;
     for (size_t round = 0; round < rounds; round++) {
         const u8 *step = script;
         for (size_t i = 0; i < script_length / STEP; i++, step += STEP) {

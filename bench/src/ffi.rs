@@ -44,8 +44,6 @@ pub type Run = unsafe extern "C" fn(
     reader_len: usize,
     said: *mut u8,
     said_len: usize,
-    stamps: *mut i64,
-    stamps_len: usize,
     rounds: usize,
 ) -> u64;
 
@@ -70,8 +68,6 @@ macro_rules! runs {
                 reader_len: usize,
                 said: *mut u8,
                 said_len: usize,
-                stamps: *mut i64,
-                stamps_len: usize,
                 rounds: usize,
             ) -> u64;)*
         }
@@ -130,9 +126,16 @@ extern "C" {
     fn c_store_numbers() -> usize;
 
     fn c_store_committed(kept: *const u16, out: *mut u16);
+
+    fn clock() -> i64;
 }
 
-pub fn run(run: Run, kept: &mut Numbers, lent: &mut Buffers, octets: &[u8], rounds: usize, stamps: &mut [i64]) -> u64 {
+/// The processor time that the process has used, in microseconds.
+pub fn processor_time() -> i64 {
+    unsafe { clock() }
+}
+
+pub fn run(run: Run, kept: &mut Numbers, lent: &mut Buffers, octets: &[u8], rounds: usize) -> u64 {
     unsafe {
         run(
             kept.0.as_mut_ptr(),
@@ -152,8 +155,6 @@ pub fn run(run: Run, kept: &mut Numbers, lent: &mut Buffers, octets: &[u8], roun
             lent.reader.len(),
             lent.said.as_mut_ptr(),
             lent.said.len(),
-            stamps.as_mut_ptr(),
-            stamps.len(),
             rounds,
         )
     }

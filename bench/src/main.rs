@@ -171,7 +171,7 @@ fn by_age(rounds: usize) -> Vec<i64> {
     let mut stored = Stored::new(Which::Proved, body.len());
     let mut stamps = vec![0; rounds + 1];
     stored.pass(&Script::default().fresh().octets, 1);
-    stored.pass_stamped(&body.octets, rounds + 1, &mut stamps);
+    stored.pass_stamped(&body.octets, &mut stamps);
     assert!(stored.lent.said.iter().all(|&code| code < 10), "a commit was refused");
     stamps
 }

@@ -118,17 +118,20 @@ impl Stored {
     /// Runs the steps so many rounds.
     #[inline]
     pub fn pass(&mut self, octets: &[u8], rounds: usize) {
-        self.pass_stamped(octets, rounds, &mut []);
-    }
-
-    /// `stamps` gets the processor time in microseconds before each round, of the proved store alone.
-    pub fn pass_stamped(&mut self, octets: &[u8], rounds: usize, stamps: &mut [i64]) {
         let sum = match &mut self.record {
-            Record::Proved(kept) => ffi::run(ffi::bench_calls_run, kept, &mut self.lent, octets, rounds, stamps),
+            Record::Proved(kept) => ffi::run(ffi::bench_calls_run, kept, &mut self.lent, octets, rounds),
             Record::Twin(store) => pass_twin(store, &mut self.lent, octets, rounds),
-            Record::C(kept) => ffi::run(ffi::c_store_run, kept, &mut self.lent, octets, rounds, stamps),
+            Record::C(kept) => ffi::run(ffi::c_store_run, kept, &mut self.lent, octets, rounds),
         };
         self.sum = self.sum.wrapping_add(sum);
+    }
+
+    /// Runs the steps as often as `stamps` is long, a call each, and puts the processor time in microseconds before each into it.
+    pub fn pass_stamped(&mut self, octets: &[u8], stamps: &mut [i64]) {
+        for stamp in stamps {
+            *stamp = ffi::processor_time();
+            self.pass(octets, 1);
+        }
     }
 
     /// The sixteen committed offsets and the eight lengths.

@@ -152,13 +152,6 @@ fn note(said: &mut [u8], i: usize, x: u8) {
     }
 }
 
-// Puts the processor time in microseconds at i, if there is room.
-fn stamp(stamps: &mut [i64], i: usize) {
-    if i < stamps.len() {
-        stamps[i] = libc::clock();
-    }
-}
-
 // Runs the script once. The code of each step's outcome goes to `said`, as far as it has room. Answers the
 // sum of the numbers that the calls answered, modulo 2 to the power 64.
 fn pass(
@@ -187,8 +180,7 @@ fn pass(
     sum
 }
 
-// Runs the script so many rounds. The processor time in microseconds before each round goes to `stamps`, as
-// far as it has room. Answers the sum of the numbers that the calls answered.
+// Runs the script so many rounds. Answers the sum of the numbers that the calls answered.
 #[unsafe(no_mangle)]
 pub extern "C" fn bench_calls_run(
     state: &mut State,
@@ -200,13 +192,11 @@ pub extern "C" fn bench_calls_run(
     data: &[u8],
     reader: &mut [u8],
     said: &mut [u8],
-    stamps: &mut [i64],
     rounds: usize,
 ) -> u64 {
     let mut sum = 0;
     let mut i = 0;
     while i < rounds {
-        stamp(stamps, i);
         i += 1;
         let answered = pass(state, files, logs, marks, undo, script, data, reader, said);
         sum = std::num::wrapping_add_u64(sum, answered);

@@ -1,0 +1,23 @@
+-- `take_piece` meets its contract. The loop's invariant: the end of the piece that is reached from here is the
+-- one that was reached from its start. Assumes nothing.
+use mathlib.Core.{Bool.false≢true, Path.{◌≡◌, refl, sym, ◌∙◌}}
+use lib.ListN.{length, take, drop, drop_of_length-le}
+use native.Mathlib.Omega.{arith}
+use Prim.Native.Nat.{◌-◌, ◌≤◌}
+use Rattle.spec.specs.Promises.{machine_of}
+use Rattle.text_log.specs.Replay.{replaying}
+use Rattle.text_lines.{specs.Programs.{at_end, within}, proofs.Passing.{off, end_same, end_of}}
+use Rattle.text_replay.specs.{Bounds.Rooms, Turns.replay_state_in}
+use Rattle.text_replay_pieces.specs.Bounds.{PiecesResting}
+use Rattle.replay.proofs.Laws.{preserved-flushed, rests}
+use Rattle.replay.proofs.take_piece.Given as goal
+
+abbrev pub invariant-loop-p : goal.invariant-loop-p
+invariant-loop-p l = PiecesResting l.p × (l.p.at ≤ length l.piece) × (length l.line ≡ 8238) × Rooms l.bytes l.reader l.out × (at_end replaying
+    (within (replay_state_in l.initial.p (machine_of l.initial.state l.initial.files l.initial.logs l.initial.marks l.initial.undo) l.initial.out) (take l.initial.p.pending l.initial.line) l.piece) ≡ at_end
+    replaying
+    (within (replay_state_in l.p (machine_of l.state l.files l.logs l.marks l.undo) l.out) (take l.p.pending l.line) (drop l.p.at l.piece)))
+
+abbrev pub decreases-loop-p : goal.decreases-loop-p
+decreases-loop-p l =
+    length l.piece - l.p.at

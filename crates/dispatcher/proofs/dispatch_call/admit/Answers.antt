@@ -11,22 +11,19 @@ returns-in-Refused c = gate-before _ _ _ _ c.first_tests-g.ensures.gate _ _ c.in
 
 pub returns-then-not-none_begun : goal.returns-then-not-none_begun
 unfolding gate_number admission_of_dispatch unless
-returns-then-not-none_begun c = let at-gate = c in
-    gate-after _ _ _ _ at-gate.first_tests-g.ensures.gate _ 19 at-gate.in_default.is
+returns-then-not-none_begun c = gate-after _ _ _ _ c.first_tests-g.ensures.gate _ 19 c.in_default.is
     (simp (failed c.none_begun.ensures (ap not c.if-not-none_begun.true)))
 
 pub returns-then-not-scripts_in : goal.returns-then-not-scripts_in
 unfolding gate_number admission_of_dispatch unless
-returns-then-not-scripts_in c = let at-idle = c in let at-gate = at-idle in
-    gate-after _ _ _ _ at-gate.first_tests-g.ensures.gate _ 20 at-gate.in_default.is (simp (
-      test-held at-idle.none_begun.ensures (ap not at-idle.if-not-none_begun.false),
-      failed c.scripts_in.ensures (ap not c.if-not-scripts_in.true),
-    ))
+returns-then-not-scripts_in c = gate-after _ _ _ _ c.first_tests-g.ensures.gate _ 20 c.in_default.is (simp (
+  test-held c.none_begun.ensures (ap not c.if-not-none_begun.false),
+  failed c.scripts_in.ensures (ap not c.if-not-scripts_in.true),
+))
 
 pub returns : goal.returns
 unfolding gate_number admission_of_dispatch unless
-returns c = let at-idle = c in let at-gate = at-idle in
-    gate-after _ _ _ _ at-gate.first_tests-g.ensures.gate _ 0 at-gate.in_default.is (simp (
-      test-held at-idle.none_begun.ensures (ap not at-idle.if-not-none_begun.false),
-      test-held c.scripts_in.ensures (ap not c.if-not-scripts_in.false),
-    ))
+returns c = gate-after _ _ _ _ c.first_tests-g.ensures.gate _ 0 c.in_default.is (simp (
+  test-held c.none_begun.ensures (ap not c.if-not-none_begun.false),
+  test-held c.scripts_in.ensures (ap not c.if-not-scripts_in.false),
+))

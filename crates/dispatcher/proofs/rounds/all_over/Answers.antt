@@ -8,11 +8,9 @@ pub loop-k-init : goal.loop-k-init
 loop-k-init c = (omega arith, below-zero _)
 
 pub returns-then-goes_on : goal.returns-then-goes_on
-returns-then-goes_on c = let asked = c in let tested = asked in
-    let goes = sym asked.goes_on.ensures ∙ c.if-goes_on.true in
-    sym (below_fails _ tested.loop-k.k _ tested.loop-k-test.true (ap not goes))
+returns-then-goes_on c = let goes = sym c.goes_on.ensures ∙ c.if-goes_on.true in
+    sym (below_fails _ c.loop-k.k _ c.loop-k-test.true (ap not goes))
 
 pub loop-k-preserved : goal.loop-k-preserved
 loop-k-preserved c =
-    let asked = c in
-    (omega arith, below_more _ _ asked.loop-k.invariant.1 (ap not (sym asked.goes_on.ensures ∙ c.if-goes_on.false)))
+    (omega arith, below_more _ _ c.loop-k.invariant.1 (ap not (sym c.goes_on.ensures ∙ c.if-goes_on.false)))

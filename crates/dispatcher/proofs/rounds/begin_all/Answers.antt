@@ -11,11 +11,11 @@ pub loop-k-init : goal.loop-k-init
 loop-k-init c = unfold begins in (omega arith, refl, λ bytes minute x reader n m₀ w s. s)
 
 pub loop-k-preserved : goal.loop-k-preserved
-loop-k-preserved c = let begun = c in let l = begun.loop-k in (
+loop-k-preserved c = let l = c.loop-k in (
   omega arith,
   search rules,
   λ bytes minute x reader n m₀ w s. stands-as m₀ _ _ _ reader _ n (begins-again (store_reply m₀) bytes minute x l.k w)
-      (begun.begin_one.ensures reader n m₀ _ (l.invariant.2 bytes minute x reader n m₀ w s)),
+      (c.begin_one.ensures reader n m₀ _ (l.invariant.2 bytes minute x reader n m₀ w s)),
 )
 
 pub returns : goal.returns

@@ -4,8 +4,6 @@ use Rattle.dispatcher.proofs.StepLaws.{stands-as, stands-call, goes-as, chosen-s
 use Rattle.dispatcher.proofs.rounds.begin_one.Goals as goal
 
 pub returns-then-goes_on : goal.returns-then-goes_on
-returns-then-goes_on c = let at-if = c in
-    let start = at-if in
-    λ reader commits m₀ w s. stands-as m₀ _ _ _ reader _ commits (chosen-step _ _ w (goes-as m₀ w _ reader _ commits s
-    start.args.k start.requires _ true at-if.goes_on.ensures at-if.if-goes_on.true))
+returns-then-goes_on c = λ reader commits m₀ w s. stands-as m₀ _ _ _ reader _ commits (chosen-step _ _ w (goes-as m₀ w _ reader _ commits s
+    c.args.k c.requires _ true c.goes_on.ensures c.if-goes_on.true))
     (stands-call m₀ w _ reader _ commits s _ _ c.begin.ensures.0.machine)

@@ -11,16 +11,15 @@ pub loop-k-init : goal.loop-k-init
 loop-k-init c = unfold commit_all in (omega arith, omega arith, refl, refl, refl, λ bytes x reader m₀ w s. s)
 
 pub loop-k-preserved : goal.loop-k-preserved
-loop-k-preserved c = let done = c in
-    let l = done.loop-k in (
-      omega arith,
-      omega (arith, l.invariant.1, done.commit_one-next.ensures.few),
-      search rules,
-      search rules,
-      search rules,
-      λ bytes x reader m₀ w s. stands-as m₀ _ _ _ reader _ _ (commits-again (store_reply m₀) bytes _ x l.k w)
-          (done.commit_one-next.ensures.work bytes x reader m₀ _ (l.invariant.5 bytes x reader m₀ w s)),
-    )
+loop-k-preserved c = let l = c.loop-k in (
+  omega arith,
+  omega (arith, l.invariant.1, c.commit_one-next.ensures.few),
+  search rules,
+  search rules,
+  search rules,
+  λ bytes x reader m₀ w s. stands-as m₀ _ _ _ reader _ _ (commits-again (store_reply m₀) bytes _ x l.k w)
+      (c.commit_one-next.ensures.work bytes x reader m₀ _ (l.invariant.5 bytes x reader m₀ w s)),
+)
 
 pub returns : goal.returns
 returns c = let l = c.loop-k in let a = c.args in

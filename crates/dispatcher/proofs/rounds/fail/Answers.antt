@@ -3,6 +3,5 @@ use Rattle.dispatcher.proofs.StepLaws.{stands-failed}
 use Rattle.dispatcher.proofs.rounds.fail.Goals as goal
 
 pub returns : goal.returns
-returns c = let start = c in
-    λ reader commits m₀ w s. stands-failed m₀ w _ reader _ commits s start.args.k start.args.r start.requires _
+returns c = λ reader commits m₀ w s. stands-failed m₀ w _ reader _ commits s c.args.k c.args.r c.requires _
     c.abort.ensures.0.machine

@@ -28,23 +28,19 @@ loop-i-init c = (
 )
 
 pub take_turn-next-requires : goal.take_turn-next-requires
-take_turn-next-requires c = let asked = c in
-    let at-if = asked in
-    let start = at-if in (
-      omega (arith, at-if.loop-i.invariant.2, at-if.if-k-count.true),
-      λ e. call-in _ _ start.requires _ _ at-if.if-k-count.true (ltb-true _ _ (and_right asked.goes_on.result _ e)),
-    )
+take_turn-next-requires c = (
+  omega (arith, c.loop-i.invariant.2, c.if-k-count.true),
+  λ e. call-in _ _ c.requires _ _ c.if-k-count.true (ltb-true _ _ (and_right c.goes_on.result _ e)),
+)
 
 pub loop-i-preserved-then-k-count : goal.loop-i-preserved-then-k-count
 unfolding scripts_of
-loop-i-preserved-then-k-count c = let turned = c in
-    let asked = turned in
-    let tested = asked in let l = tested.loop-i in
-    let a = tested.args in (
+loop-i-preserved-then-k-count c = let l = c.loop-i in
+    let a = c.args in (
       l.invariant.0,
       omega arith,
       l.invariant.2,
-      omega (arith, l.invariant.2, asked.if-k-count.true, tested.loop-i-test.true),
+      omega (arith, l.invariant.2, c.if-k-count.true, c.loop-i-test.true),
       search rules,
       search rules,
       search rules,
@@ -52,11 +48,11 @@ loop-i-preserved-then-k-count c = let turned = c in
       search rules,
       λ minute n m₀ w s. let x = scripts_of a.scripts in let u = passes (store_reply m₀) a.bytes.now minute x l.i w in
           let v = turns (store_reply m₀) a.bytes.now minute x l.i l.k u in let t = l.invariant.9 minute n m₀ w s in
-          let goes = asked.goes_on.ensures
-          ∙ ap goes_on (t.ends l.k (omega (arith, l.invariant.2, asked.if-k-count.true))) in
+          let goes = c.goes_on.ensures
+          ∙ ap goes_on (t.ends l.k (omega (arith, l.invariant.2, c.if-k-count.true))) in
           stands-as m₀ _ _ _ _ _ n (turns-again (store_reply m₀) _ minute _ l.i l.k u ∙ turn-as _ minute x l.i
           l.k m₀ v _ (ap (λ (b : Bool). b && ltb l.i (get_or a.scripts.counts l.k 0)) goes))
-          (turned.take_turn-next.ensures minute x n m₀ v t),
+          (c.take_turn-next.ensures minute x n m₀ v t),
     )
 
 pub loop-i-preserved : goal.loop-i-preserved

@@ -8,17 +8,13 @@ pub begin_all-requires : goal.begin_all-requires
 begin_all-requires c = scripts-eight _ _ c.requires.0
 
 pub commit_all-requires : goal.commit_all-requires
-commit_all-requires c = let start = c in
-    (scripts-eight _ _ start.requires.0, start.requires.1)
+commit_all-requires c = (scripts-eight _ _ c.requires.0, c.requires.1)
 
 pub returns : goal.returns
 unfolding round scripts_of
-returns c = let committed = c in
-    let called = committed in
-    let begun = called in
-    let a =
-    begun.args in record {
-      work = λ m₀ w s. committed.commit_all.ensures.work _ _ _ m₀ _
-          (called.make_passes-called.ensures a.minute _ m₀ _ (begun.begin_all.ensures _ a.minute _ _ _ m₀ w s));
-      few = committed.commit_all.ensures.few;
+returns c = let a =
+    c.args in record {
+      work = λ m₀ w s. c.commit_all.ensures.work _ _ _ m₀ _
+          (c.make_passes-called.ensures a.minute _ m₀ _ (c.begin_all.ensures _ a.minute _ _ _ m₀ w s));
+      few = c.commit_all.ensures.few;
     }

@@ -18,26 +18,21 @@ all_over-requires c = scripts-eight _ _ c.requires
 
 pub returns-then-all_over : goal.returns-then-all_over
 unfolding work_on_store dispatched scripts_of
-returns-then-all_over c = let asked = c in let l = asked.loop-j in
-    let start = asked in
-    let a = start.args in
+returns-then-all_over c = let l = c.loop-j in
+    let a = c.args in
     let m = machine_of a.state.now a.files.now a.logs.now a.marks.now a.undo.now in
     rounds-stopped m _ _ (scripts_of a.scripts) l.j _ _ _ _ _ l.invariant.7 (scripts-eight (length a.bytes.now)
-    a.scripts start.requires) l.invariant.0 (sym asked.all_over.ensures ∙ c.if-all_over.true)
+    a.scripts c.requires) l.invariant.0 (sym c.all_over.ensures ∙ c.if-all_over.true)
 
 pub run_round-next-requires : goal.run_round-next-requires
-run_round-next-requires c = let tested = c in
-    let start = tested in
-    let few = scripts-eight _ _ start.requires in
-    (start.requires, omega (arith, few, tested.loop-j.invariant.1, tested.loop-j-test.true))
+run_round-next-requires c = let few = scripts-eight _ _ c.requires in
+    (c.requires, omega (arith, few, c.loop-j.invariant.1, c.loop-j-test.true))
 
 pub loop-j-preserved : goal.loop-j-preserved
-loop-j-preserved c = let done = c in
-    let tested = done in
-    let l = tested.loop-j in
-    let few = scripts-eight _ _ tested.requires in
-    let more = done.run_round-next.ensures in (
-      omega (arith, tested.loop-j-test.true),
+loop-j-preserved c = let l = c.loop-j in
+    let few = scripts-eight _ _ c.requires in
+    let more = c.run_round-next.ensures in (
+      omega (arith, c.loop-j-test.true),
       omega (arith, few, l.invariant.1, more.few),
       search rules,
       search rules,

@@ -3,8 +3,7 @@ use Rattle.dispatcher.proofs.StepLaws.{stands-as, answered-passes, answered-fail
 use Rattle.dispatcher.proofs.rounds.take_answer.Goals as goal
 
 pub returns-in-Refused : goal.returns-in-Refused
-returns-in-Refused c = let told = c in
-    λ reader commits m₀ w s. stands-as m₀ _ _ _ reader _ commits (answered-fails _ w _ _ told.in-Refused.is)
+returns-in-Refused c = λ reader commits m₀ w s. stands-as m₀ _ _ _ reader _ commits (answered-fails _ w _ _ c.in-Refused.is)
     (c.fail.ensures reader commits m₀ w s)
 
 pub returns : goal.returns

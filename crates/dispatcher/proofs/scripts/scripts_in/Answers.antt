@@ -19,15 +19,13 @@ loop-k-init c = (omega arith, omega arith, below-zero _, below-zero _)
 
 pub returns-then-calls-gt-SCRIPT_CALLS : goal.returns-then-calls-gt-SCRIPT_CALLS
 unfolding scripts_in script_in scripts_of
-returns-then-calls-gt-SCRIPT_CALLS c = let tested = c in
-    sym (counted-fails _ 8 _ _ refl tested.loop-k.k tested.loop-k-test.true
+returns-then-calls-gt-SCRIPT_CALLS c = sym (counted-fails _ 8 _ _ refl c.loop-k.k c.loop-k-test.true
     (counted-over _ 16 _ _ refl c.if-calls-gt-SCRIPT_CALLS.true))
 
 pub returns-then-not-part_in : goal.returns-then-not-part_in
 unfolding scripts_in script_in scripts_of
-returns-then-not-part_in c = let had = c in let tested = had in
-    sym (counted-fails _ 8 _ _ refl tested.loop-k.k tested.loop-k-test.true (counted-fails _ 16 _ _ refl
-    tested.loop-k.i had.if-i-calls.true (failed c.part_in.ensures (ap not c.if-not-part_in.true))))
+returns-then-not-part_in c = sym (counted-fails _ 8 _ _ refl c.loop-k.k c.loop-k-test.true (counted-fails _ 16 _ _ refl
+    c.loop-k.i c.if-i-calls.true (failed c.part_in.ensures (ap not c.if-not-part_in.true))))
 
 pub loop-k-preserved-then-i-calls : goal.loop-k-preserved-then-i-calls
 unfolding scripts_of

@@ -1,0 +1,11 @@
+-- `flat_scripts::scripts_of` meets its contract.
+use Rattle.c_scripts.specs.FlatScripts.{scripts_from}
+use Rattle.c_scripts.proofs.flat_scripts.scripts_of.Goals as goal
+
+pub returns : goal.returns
+unfolding scripts_from
+returns c = λ i. record {
+  lines = c.lines_of-lines.ensures i;
+  counts = c.counts_of-counts.ensures i;
+  count = c.number_at-count.ensures i;
+}

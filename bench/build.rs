@@ -1,10 +1,10 @@
-//! Links the archives that `rt staticlib` writes of `bench_calls` and `bench_dispatch`, and the store by hand in C, compiled by gcc.
+//! Links the archives that `tools/proved` writes of `bench_calls` and `bench_dispatch`, and the store by hand in C, compiled by gcc.
 
 use std::path::Path;
 use std::process::Command;
 
 fn main() {
-    let archives = Path::new("../target/staticlib").canonicalize().expect("rt staticlib bench_calls comes first");
+    let archives = Path::new("../target/staticlib").canonicalize().expect("tools/proved bench_calls comes first");
     println!("cargo:rustc-link-search=native={}", archives.display());
     for name in ["bench_calls", "bench_dispatch"] {
         println!("cargo:rustc-link-lib=static={name}");

@@ -2,7 +2,7 @@
 find_package(Threads REQUIRED)
 set(root ${CMAKE_CURRENT_SOURCE_DIR}/..)
 set(samples ${root}/samples)
-set(replay ${root}/target/bin/replay CACHE FILEPATH "the program replay, which `rt check replay` builds")
+set(replay ${root}/target/bin/replay CACHE FILEPATH "the program replay, which `tools/proved replay` builds")
 
 function(program name source)
     add_executable(${name} ${source})

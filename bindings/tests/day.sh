@@ -11,7 +11,7 @@ if [ -x "$REPLAY" ]; then
     "$REPLAY" <"$work/log" 2>&1 >/dev/null | grep -q 'differ' || fail "another start was not seen"
     echo "replayed: $(wc -l <"$work/answers") answers, no difference"
 else
-    echo "$REPLAY is not there (rt check replay builds it)"
+    echo "$REPLAY is not there (tools/proved replay builds it)"
     exit 77
 fi
 "$BUILD/day" time || fail "recording costs more than 1.4 x"

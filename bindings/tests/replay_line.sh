@@ -2,7 +2,7 @@
 # right, which the twin makes.
 . "$(dirname "$0")/lib.sh"
 if [ ! -x "$REPLAY" ]; then
-    echo "skipped: $REPLAY is not there (rt check replay builds it)"
+    echo "skipped: $REPLAY is not there (tools/proved replay builds it)"
     exit 77
 fi
 held() {

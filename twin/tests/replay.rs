@@ -41,7 +41,7 @@ fn program() -> Option<PathBuf> {
     if !program.exists() {
         SKIPPED.call_once(|| {
             let said =
-                writeln!(io::stderr(), "skipped: there is no {}; `rt check replay` builds it", program.display());
+                writeln!(io::stderr(), "skipped: there is no {}; `tools/proved replay` builds it", program.display());
             said.expect("standard error is written");
         });
         return None;

@@ -65,7 +65,7 @@ fn proved() -> Option<PathBuf> {
 #[test]
 fn generated_traces() {
     if proved().is_none() {
-        let said = writeln!(io::stderr(), "skipped: there is no target/bin/trace; `rt check trace` builds it");
+        let said = writeln!(io::stderr(), "skipped: there is no target/bin/trace; `tools/proved trace` builds it");
         said.expect("standard error is written");
     }
     (0..TRACES).for_each(|seed| check(&generated(seed), &format!("seed {seed}")));

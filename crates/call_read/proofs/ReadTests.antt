@@ -116,8 +116,8 @@ module _ (state files logs marks undo : List ℕ) (t : ℕ) {gate : Gate}
     pub tests-refuse : (r : Refusal) → verdict ≡ GateRefused r → number r ≡ read_refusal (transaction m.store t).stale d n room
     tests-refuse r e = gate-number _ _ says r e
 
-    pub may-look : length state ≡ state_length → verdict ≡ Pass → ReadAdmitted state files logs marks undo t d n room
-    may-look long e = read-admitted state files logs marks undo t d n room long tests-admit through begun-is
+    pub read-allowed : length state ≡ state_length → verdict ≡ Pass → ReadAdmitted state files logs marks undo t d n room
+    read-allowed long e = read-admitted state files logs marks undo t d n room long tests-admit through begun-is
         (gate-zero _ _ says e)
 
 -- A call that was refused after settling had left the record alone.

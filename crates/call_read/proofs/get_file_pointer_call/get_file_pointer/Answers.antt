@@ -7,7 +7,7 @@ use Rattle.admission.specs.Admission.{admission}
 use Rattle.spec.specs.{Messages.{Op, buffer_of}, Machine.{Machine}, Calls.{call, admitted, step_turn}, Promises.machine_of}
 use Rattle.read_settle.specs.Choices.{chosen_by_pointer}
 use Rattle.refinement.proofs.TurnLaws.{LetThrough, gate-refused, gate-passed, gate-let-through, is-closed, admitted-closed, turned-follows}
-use Rattle.call_read.proofs.ReadTests.{ReadAdmitted, tests-admit, tests-refuse, may-look, all-placeable, settled-as}
+use Rattle.call_read.proofs.ReadTests.{ReadAdmitted, tests-admit, tests-refuse, read-allowed, all-placeable, settled-as}
 use Rattle.call_read.proofs.PointerRules.{pointer-refused, pointer-past-follows, pointer-follows}
 use Rattle.call_read.proofs.get_file_pointer_call.get_file_pointer.Goals as goal
 
@@ -54,7 +54,7 @@ pub settle_for_pointer-v-requires : goal.settle_for_pointer-v-requires
 settle_for_pointer-v-requires c =
     let a = c.args in
     let l : ReadAdmitted a.state.now a.files.now a.logs.now a.marks.now a.undo.now a.t a.d 0 0 =
-    may-look a.state.now a.files.now a.logs.now a.marks.now a.undo.now a.t c.admit-gate.ensures.gate c.in_default.is
+    read-allowed a.state.now a.files.now a.logs.now a.marks.now a.undo.now a.t c.admit-gate.ensures.gate c.in_default.is
     c.is_begun.ensures c.if-not-is_begun.false c.is_stale.ensures a.d 0 0 _ c.admit_read-verdict.ensures
     c.admit-gate.ensures.long c.in_default-verdict.is in
     record { ready = all-placeable l; few = omega (arith, l.may.low) }
@@ -63,7 +63,7 @@ pub returns-in_default-v : goal.returns-in_default-v
 returns-in_default-v c =
     let a = c.args in
     let l : ReadAdmitted a.state.now a.files.now a.logs.now a.marks.now a.undo.now a.t a.d 0 0 =
-    may-look a.state.now a.files.now a.logs.now a.marks.now a.undo.now a.t c.admit-gate.ensures.gate c.in_default.is
+    read-allowed a.state.now a.files.now a.logs.now a.marks.now a.undo.now a.t c.admit-gate.ensures.gate c.in_default.is
     c.is_begun.ensures c.if-not-is_begun.false c.is_stale.ensures a.d 0 0 _ c.admit_read-verdict.ensures
     c.admit-gate.ensures.long c.in_default-verdict.is in
     pointer-past-follows l _ (settled-as l (λ x. chosen_by_pointer x a.d) _ _ _ c.settle_for_pointer-v.ensures
@@ -73,7 +73,7 @@ pub standing_at-standing-requires : goal.standing_at-standing-requires
 standing_at-standing-requires c =
     let a = c.args in
     let l : ReadAdmitted a.state.now a.files.now a.logs.now a.marks.now a.undo.now a.t a.d 0 0 =
-    may-look a.state.now a.files.now a.logs.now a.marks.now a.undo.now a.t c.admit-gate.ensures.gate c.in_default.is
+    read-allowed a.state.now a.files.now a.logs.now a.marks.now a.undo.now a.t c.admit-gate.ensures.gate c.in_default.is
     c.is_begun.ensures c.if-not-is_begun.false c.is_stale.ensures a.d 0 0 _ c.admit_read-verdict.ensures
     c.admit-gate.ensures.long c.in_default-verdict.is in
     (l.held.small, omega (arith, l.may.low))
@@ -82,7 +82,7 @@ pub returns : goal.returns
 returns c =
     let a = c.args in
     let l : ReadAdmitted a.state.now a.files.now a.logs.now a.marks.now a.undo.now a.t a.d 0 0 =
-    may-look a.state.now a.files.now a.logs.now a.marks.now a.undo.now a.t c.admit-gate.ensures.gate c.in_default.is
+    read-allowed a.state.now a.files.now a.logs.now a.marks.now a.undo.now a.t c.admit-gate.ensures.gate c.in_default.is
     c.is_begun.ensures c.if-not-is_begun.false c.is_stale.ensures a.d 0 0 _ c.admit_read-verdict.ensures
     c.admit-gate.ensures.long c.in_default-verdict.is in
     pointer-follows l _ (settled-as l (λ x. chosen_by_pointer x a.d) _ _ _ c.settle_for_pointer-v.ensures

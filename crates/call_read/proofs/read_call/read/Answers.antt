@@ -7,7 +7,7 @@ use Rattle.admission.specs.Admission.{admission}
 use Rattle.spec.specs.{Messages.{Op, buffer_of}, Machine.{Machine}, Calls.{call, admitted, step_turn}, Promises.machine_of}
 use Rattle.read_settle.specs.Choices.{chosen_by_read}
 use Rattle.refinement.proofs.TurnLaws.{LetThrough, gate-refused, gate-passed, gate-let-through, is-closed, admitted-closed, turned-follows}
-use Rattle.call_read.proofs.ReadTests.{ReadAdmitted, tests-admit, tests-refuse, may-look, all-placeable, settled-as}
+use Rattle.call_read.proofs.ReadTests.{ReadAdmitted, tests-admit, tests-refuse, read-allowed, all-placeable, settled-as}
 use Rattle.call_read.proofs.ReadRules.{read-refused, past-follows, handed-on, read-follows}
 use Rattle.call_read.proofs.read_call.read.Goals as goal
 
@@ -54,7 +54,7 @@ pub settle_for_read-v-requires : goal.settle_for_read-v-requires
 settle_for_read-v-requires c =
     let a = c.args in
     let l : ReadAdmitted a.state.now a.files.now a.logs.now a.marks.now a.undo.now a.t a.d a.n (length a.reader.now) =
-    may-look a.state.now a.files.now a.logs.now a.marks.now a.undo.now a.t c.admit-gate.ensures.gate c.in_default.is
+    read-allowed a.state.now a.files.now a.logs.now a.marks.now a.undo.now a.t c.admit-gate.ensures.gate c.in_default.is
     c.is_begun.ensures c.if-not-is_begun.false c.is_stale.ensures a.d a.n (length a.reader.now) _ c.admit_read-verdict.ensures
     c.admit-gate.ensures.long c.in_default-verdict.is in
     record { ready = all-placeable l; few = omega (arith, l.may.low) }
@@ -63,7 +63,7 @@ pub returns-in_default-v : goal.returns-in_default-v
 returns-in_default-v c =
     let a = c.args in
     let l : ReadAdmitted a.state.now a.files.now a.logs.now a.marks.now a.undo.now a.t a.d a.n (length a.reader.now) =
-    may-look a.state.now a.files.now a.logs.now a.marks.now a.undo.now a.t c.admit-gate.ensures.gate c.in_default.is
+    read-allowed a.state.now a.files.now a.logs.now a.marks.now a.undo.now a.t c.admit-gate.ensures.gate c.in_default.is
     c.is_begun.ensures c.if-not-is_begun.false c.is_stale.ensures a.d a.n (length a.reader.now) _ c.admit_read-verdict.ensures
     c.admit-gate.ensures.long c.in_default-verdict.is in
     past-follows _ l _ (settled-as l (λ x. chosen_by_read (store_of a.state.now).filenumbers x a.d) _ _ _
@@ -73,7 +73,7 @@ pub read_settled-requires : goal.read_settled-requires
 read_settled-requires c =
     let a = c.args in
     let l : ReadAdmitted a.state.now a.files.now a.logs.now a.marks.now a.undo.now a.t a.d a.n (length a.reader.now) =
-    may-look a.state.now a.files.now a.logs.now a.marks.now a.undo.now a.t c.admit-gate.ensures.gate c.in_default.is
+    read-allowed a.state.now a.files.now a.logs.now a.marks.now a.undo.now a.t c.admit-gate.ensures.gate c.in_default.is
     c.is_begun.ensures c.if-not-is_begun.false c.is_stale.ensures a.d a.n (length a.reader.now) _ c.admit_read-verdict.ensures
     c.admit-gate.ensures.long c.in_default-verdict.is in
     handed-on _ l _ (settled-as l (λ x. chosen_by_read (store_of a.state.now).filenumbers x a.d) _ _ _
@@ -83,7 +83,7 @@ pub returns : goal.returns
 returns c =
     let a = c.args in
     let l : ReadAdmitted a.state.now a.files.now a.logs.now a.marks.now a.undo.now a.t a.d a.n (length a.reader.now) =
-    may-look a.state.now a.files.now a.logs.now a.marks.now a.undo.now a.t c.admit-gate.ensures.gate c.in_default.is
+    read-allowed a.state.now a.files.now a.logs.now a.marks.now a.undo.now a.t c.admit-gate.ensures.gate c.in_default.is
     c.is_begun.ensures c.if-not-is_begun.false c.is_stale.ensures a.d a.n (length a.reader.now) _ c.admit_read-verdict.ensures
     c.admit-gate.ensures.long c.in_default-verdict.is in
     let e = c.read_settled.ensures in

@@ -128,8 +128,7 @@ fn edit(
     undo: &mut UndoLog,
 ) -> io::Result<()> {
     cue(rt, state, files, logs, marks, undo, PLAYLIST, b"feature\n")?;
-    let mut tries = 0;
-    while tries < TRIES {
+    for tries in 0..TRIES {
         repeat(state, files, logs, marks, undo);
         if tries == 0 {
             cue(rt, state, files, logs, marks, undo, FRONT, b"trailer\n")?;
@@ -138,7 +137,6 @@ fn edit(
         if !stale {
             return Ok(());
         }
-        tries += 1;
     }
     Ok(())
 }

@@ -1,5 +1,5 @@
 -- `bench_calls_committed` meets its contract. The loop goes over the numbers.
-use Rattle.std.proofs.Common.{◌≡◌, ◌-◌, ◌≤◌, length, rules}
+use Rattle.std.proofs.Common.{◌≡◌, ◌-◌, ◌≤◌, length}
 use Rattle.bench_calls.proofs.bench_calls_committed.Given as goal
 
 abbrev pub invariant-loop-i : goal.invariant-loop-i

@@ -1,5 +1,5 @@
 -- `bench_calls_lines` meets its contract. The loop goes over the rounds.
-use Rattle.std.proofs.Common.{◌≡◌, ◌-◌, ◌≤◌, length, rules}
+use Rattle.std.proofs.Common.{◌≡◌, ◌-◌, ◌≤◌, length}
 use Rattle.bench_calls.proofs.bench_calls_lines.Given as goal
 
 abbrev pub invariant-loop-i : goal.invariant-loop-i

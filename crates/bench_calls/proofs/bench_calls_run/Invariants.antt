@@ -1,5 +1,4 @@
-
-use Rattle.std.proofs.Common.{◌≡◌, ◌-◌, ◌≤◌, length, rules}
+use Rattle.std.proofs.Common.{◌≡◌, ◌-◌, ◌≤◌, length}
 use Rattle.bench_calls.proofs.bench_calls_run.Given as goal
 
 abbrev pub invariant-loop-i : goal.invariant-loop-i

@@ -1,5 +1,4 @@
-
-use Rattle.std.proofs.Common.{◌≡◌, ◌-◌, ◌≤◌, length, rules}
+use Rattle.std.proofs.Common.{◌≡◌, ◌-◌, ◌≤◌, length}
 use Rattle.bench_calls.proofs.pass.Given as goal
 
 abbrev pub invariant-loop-start : goal.invariant-loop-start

@@ -1,5 +1,5 @@
 -- `put_lines` meets its contract. The loop goes over the steps.
-use Rattle.std.proofs.Common.{◌≡◌, ◌-◌, ◌≤◌, length, rules}
+use Rattle.std.proofs.Common.{◌≡◌, ◌-◌, ◌≤◌, length}
 use Rattle.bench_calls.proofs.put_lines.Given as goal
 
 abbrev pub invariant-loop-start : goal.invariant-loop-start

@@ -1,7 +1,5 @@
 -- `flush` meets its contract. Assumes nothing.
-use mathlib.Core.Path.{refl}
 use native.Mathlib.Omega.{arith}
-use borrow.Author.Rules.{rules}
 use Rattle.replay.proofs.Laws.{part-short}
 use Rattle.replay.proofs.flush.Goals as goal
 

@@ -1,18 +1,13 @@
 -- `run` meets its contract. The loop's invariant: no output waits, the buffers keep their lengths, and while turns are left
 -- state, buffers and counts are where the pieces so far led. Assumes nothing.
-use mathlib.Core.{Bool.{true, false≢true}, List.[], Path.{◌≡◌, refl}}
+use mathlib.Core.{Bool.{true}, List.[], Path.{◌≡◌}}
 use lib.ListN.{length, take}
 use Prim.Native.Nat.{◌<◌}
-use native.Mathlib.Omega.{arith}
-use borrow.Author.Rules.{rules}
-use Rattle.buffers.specs.Parts.{cut}
 use Rattle.spec.specs.Promises.{machine_of}
 use Rattle.text_log.specs.Replay.{replaying, first_state}
 use Rattle.text_lines.specs.{Programs.within, WholeRun.{PiecesReach, LinesLead}}
-use Rattle.text_lines.proofs.WholeRun.{reached-first, reached-more, goes_on}
 use Rattle.text_replay.specs.{Bounds.Rooms, Turns.replay_state_in}
 use Rattle.text_replay_pieces.specs.Bounds.{PiecesResting}
-use Rattle.replay.proofs.WholeRun.{ran-to-end}
 use Rattle.replay.proofs.run.Given as goal
 
 abbrev pub invariant-loop-turns : goal.invariant-loop-turns

@@ -1,15 +1,13 @@
 -- `take_piece` meets its contract. The loop's invariant: the end of the piece that is reached from here is the
 -- one that was reached from its start. Assumes nothing.
-use mathlib.Core.{Bool.false≢true, Path.{◌≡◌, refl, sym, ◌∙◌}}
-use lib.ListN.{length, take, drop, drop_of_length-le}
-use native.Mathlib.Omega.{arith}
+use mathlib.Core.{Path.{◌≡◌}}
+use lib.ListN.{length, take, drop}
 use Prim.Native.Nat.{◌-◌, ◌≤◌}
 use Rattle.spec.specs.Promises.{machine_of}
 use Rattle.text_log.specs.Replay.{replaying}
-use Rattle.text_lines.{specs.Programs.{at_end, within}, proofs.Passing.{off, end_same, end_of}}
+use Rattle.text_lines.{specs.Programs.{at_end, within}}
 use Rattle.text_replay.specs.{Bounds.Rooms, Turns.replay_state_in}
 use Rattle.text_replay_pieces.specs.Bounds.{PiecesResting}
-use Rattle.replay.proofs.Laws.{preserved-flushed, rests}
 use Rattle.replay.proofs.take_piece.Given as goal
 
 abbrev pub invariant-loop-p : goal.invariant-loop-p

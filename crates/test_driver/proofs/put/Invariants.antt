@@ -1,5 +1,5 @@
 -- `put` meets its contract. The loop's invariant: the buffer keeps its length.
-use Rattle.std.proofs.Common.{◌≡◌, ◌-◌, ◌≤◌, length, arith, length-set, rules}
+use Rattle.std.proofs.Common.{◌≡◌, ◌-◌, ◌≤◌, length}
 use Rattle.test_driver.proofs.put.Given as goal
 
 abbrev pub invariant-loop-i : goal.invariant-loop-i

@@ -1,5 +1,5 @@
 -- `lines_more` ends, and stays in its slice. Assumes nothing.
-use Rattle.std.proofs.Common.{◌-◌, ◌≤◌, length, rules}
+use Rattle.std.proofs.Common.{◌-◌, ◌≤◌, length}
 use Rattle.text_stdio.proofs.lines_more.Given as goal
 
 abbrev pub invariant-loop-i : goal.invariant-loop-i

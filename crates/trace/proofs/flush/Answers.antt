@@ -2,7 +2,6 @@
 use mathlib.Core.Path.{◌≡◌, ap, ◌∙◌}
 use lib.{ListN.length, Seq.length-take-le}
 use native.Mathlib.Omega.{arith}
-use borrow.Author.Rules.{rules}
 use Rattle.buffers.specs.Parts.{cut}
 use Rattle.trace.proofs.flush.Goals as goal
 

@@ -1,13 +1,10 @@
 -- `run` meets its contract. The loop's invariant: no output waits, the buffers keep their lengths, and while turns are left the
 -- store is where the pieces so far led. Assumes nothing.
-use mathlib.Core.{Bool.{true, false≢true}, List.[], Path.{◌≡◌, refl}}
-use lib.ListN.{length, take}
-use Prim.Native.Nat.{◌<◌}
+use mathlib.Core.{Bool.{false≢true}, Path.{refl}}
 use native.Mathlib.Omega.{arith}
-use borrow.Author.Rules.{rules}
-use Rattle.spec.specs.{Promises.machine_of, Calls.call}
-use Rattle.text_lines.{specs.WholeRun.{PiecesReach, LinesLead}, proofs.WholeRun.{reached-first, reached-more, goes_on, ran}}
-use Rattle.trace.specs.{Transcript.{store_trace, under}, Bounds.{TraceResting, TraceRoom}}
+use Rattle.spec.specs.{Calls.call}
+use Rattle.text_lines.{proofs.WholeRun.{reached-first, reached-more, goes_on, ran}}
+use Rattle.trace.specs.{Transcript.{store_trace}}
 use Rattle.trace.proofs.TruncatedLines.{trace-truncated-is-enough}
 use Rattle.trace.proofs.run.Goals as goal
 

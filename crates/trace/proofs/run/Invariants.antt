@@ -1,14 +1,11 @@
 -- `run` meets its contract. The loop's invariant: no output waits, the buffers keep their lengths, and while turns are left the
 -- store is where the pieces so far led. Assumes nothing.
-use mathlib.Core.{Bool.{true, false≢true}, List.[], Path.{◌≡◌, refl}}
+use mathlib.Core.{Bool.{true}, List.[], Path.{◌≡◌}}
 use lib.ListN.{length, take}
 use Prim.Native.Nat.{◌<◌}
-use native.Mathlib.Omega.{arith}
-use borrow.Author.Rules.{rules}
-use Rattle.spec.specs.{Promises.machine_of, Calls.call}
-use Rattle.text_lines.{specs.WholeRun.{PiecesReach, LinesLead}, proofs.WholeRun.{reached-first, reached-more, goes_on, ran}}
+use Rattle.spec.specs.{Promises.machine_of}
+use Rattle.text_lines.{specs.WholeRun.{PiecesReach, LinesLead}}
 use Rattle.trace.specs.{Transcript.{store_trace, under}, Bounds.{TraceResting, TraceRoom}}
-use Rattle.trace.proofs.TruncatedLines.{trace-truncated-is-enough}
 use Rattle.trace.proofs.run.Given as goal
 
 abbrev pub invariant-loop-turns : goal.invariant-loop-turns

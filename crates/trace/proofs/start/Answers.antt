@@ -1,5 +1,4 @@
 -- `start` meets its contract. Assumes nothing.
-use borrow.Author.Rules.{rules}
 use Rattle.buffers.specs.Parts.{tabulate}
 use Rattle.trace.specs.Transcript.{mod_eight}
 use Rattle.trace.proofs.Starting.{fresh-accepts}

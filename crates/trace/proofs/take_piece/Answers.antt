@@ -1,15 +1,9 @@
 -- `take_piece` meets its contract. The loop's invariant: the end of the piece that is reached from here is the one that was
 -- reached from its start. Assumes nothing.
-use mathlib.Core.{Bool.false≢true, Path.{◌≡◌, refl, sym, ◌∙◌}}
-use lib.ListN.{length, take, drop, drop_of_length-le}
-use native.Mathlib.Omega.{arith}
-use Prim.Native.Nat.{◌-◌, ◌≤◌}
-use borrow.Author.Rules.{rules}
-use Rattle.spec.specs.Promises.{machine_of}
-use Rattle.trace.specs.{Bounds.{TraceResting, TraceRoom}, Transcript.{store_trace, under}}
-use Rattle.text_lines.{specs.Programs.at_end, proofs.Passing.{off, end_same, end_of}}
-use mathlib.Core.Bool.{not}
-use mathlib.Core.Path.{ap}
+use mathlib.Core.{Path.{◌∙◌}}
+use lib.ListN.{drop_of_length-le}
+use Rattle.trace.specs.{Transcript.{store_trace}}
+use Rattle.text_lines.{proofs.Passing.{end_of}}
 use Rattle.trace.proofs.take_piece.Goals as goal
 
 pub returns : goal.returns

@@ -1,13 +1,11 @@
 -- `take_piece` meets its contract. The loop's invariant: the end of the piece that is reached from here is the one that was
 -- reached from its start. Assumes nothing.
-use mathlib.Core.{Bool.false≢true, Path.{◌≡◌, refl, sym, ◌∙◌}}
-use lib.ListN.{length, take, drop, drop_of_length-le}
-use native.Mathlib.Omega.{arith}
+use mathlib.Core.{Path.{◌≡◌}}
+use lib.ListN.{length, take, drop}
 use Prim.Native.Nat.{◌-◌, ◌≤◌}
-use borrow.Author.Rules.{rules}
 use Rattle.spec.specs.Promises.{machine_of}
 use Rattle.trace.specs.{Bounds.{TraceResting, TraceRoom}, Transcript.{store_trace, under}}
-use Rattle.text_lines.{specs.Programs.at_end, proofs.Passing.{off, end_same, end_of}}
+use Rattle.text_lines.{specs.Programs.at_end}
 use Rattle.trace.proofs.take_piece.Given as goal
 
 abbrev pub invariant-loop-progress : goal.invariant-loop-progress

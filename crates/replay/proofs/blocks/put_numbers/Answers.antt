@@ -1,11 +1,8 @@
 -- The loop's invariant: the front of the record has the numbers so far. Assumes nothing.
-use mathlib.Core.Path.{◌≡◌, refl, ◌∙◌}
-use lib.ListN.{length, take, length-set}
+use mathlib.Core.Path.{refl, ◌∙◌}
+use lib.ListN.{length-set}
 use native.Mathlib.Omega.{arith}
-use Prim.Native.Nat.{◌-◌, ◌≤◌}
-use borrow.Author.Rules.{rules}
 use Rattle.buffers.specs.Parts.{tabulate}
-use Rattle.state.specs.Layout.{state_length}
 use Rattle.replay.specs.Blocks.{block_word_at}
 use Rattle.replay.proofs.BlockLaws.{word_more, words-all}
 use Rattle.replay.proofs.blocks.put_numbers.Goals as goal

@@ -1,6 +1,5 @@
 -- The loop of `l` ends.
 use Prim.Native.Nat.{◌-◌, ◌≤◌}
-use borrow.Author.Rules.{rules}
 use Rattle.test_situations.proofs.letters.l.Given as goal
 
 abbrev pub invariant-loop-i : goal.invariant-loop-i

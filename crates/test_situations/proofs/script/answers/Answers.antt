@@ -1,5 +1,5 @@
 -- A call's bytes start inside its line.
-use Rattle.std.proofs.Common.{arith, rules}
+use Rattle.std.proofs.Common.{arith}
 use Rattle.text_trace.proofs.Laws.{starts-within}
 use Rattle.test_situations.proofs.script.answers.Goals as goal
 

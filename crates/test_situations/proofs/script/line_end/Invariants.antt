@@ -1,7 +1,6 @@
 -- `line_end` stays in the text, and ends.
 use lib.ListN.{length}
 use Prim.Native.Nat.{◌-◌, ◌≤◌}
-use borrow.Author.Rules.{rules}
 use Rattle.test_situations.proofs.script.line_end.Given as goal
 
 abbrev pub invariant-loop-i : goal.invariant-loop-i

@@ -1,7 +1,6 @@
 -- The loop goes over the lines, and ends.
 use lib.ListN.{length}
 use Prim.Native.Nat.{◌-◌, ◌≤◌}
-use borrow.Author.Rules.{rules}
 use Rattle.test_situations.proofs.script.run_lines.Given as goal
 
 abbrev pub invariant-loop-i : goal.invariant-loop-i

@@ -1,6 +1,5 @@
 -- The loop goes over the descriptors.
 use Prim.Native.Nat.{◌-◌, ◌≤◌}
-use borrow.Author.Rules.{rules}
 use Rattle.test_situations.proofs.script.sighted_alone.Given as goal
 
 abbrev pub invariant-loop-i : goal.invariant-loop-i

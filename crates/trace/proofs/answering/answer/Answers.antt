@@ -1,7 +1,6 @@
 -- `answer` meets its contract. Assumes nothing.
 use mathlib.Core.Path.{refl}
 use native.Mathlib.Omega.{arith}
-use borrow.Author.Rules.{rules}
 use Rattle.state.specs.Outcomes.{said}
 use Rattle.text_trace.proofs.Laws.{starts-within}
 use Rattle.trace.proofs.Laws.{refused-line, asked-line}

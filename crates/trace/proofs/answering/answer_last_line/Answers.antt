@@ -1,7 +1,6 @@
 -- `answer_last_line` meets its contract. Assumes nothing.
 use mathlib.Core.Path.{refl}
 use native.Mathlib.Omega.{arith}
-use borrow.Author.Rules.{rules}
 use Rattle.buffers.specs.Parts.{cut}
 use Rattle.text_lines.proofs.Passing.{off, on, take_none, no-last-line, last_line_lem}
 use Rattle.trace.specs.Transcript.{store_trace}

@@ -3,7 +3,6 @@ use mathlib.Core.Path.{refl}
 use lib.ListN.{length}
 use native.Mathlib.Omega.{arith}
 use Prim.Native.Nat.{◌≤◌}
-use borrow.Author.Rules.{rules}
 use Rattle.trace.proofs.Turns.{answer-line}
 use Rattle.trace.proofs.answering.answer_line.Goals as goal
 

@@ -2,12 +2,10 @@
 -- and more waits only when the place in the piece has moved on. Assumes nothing.
 use mathlib.Core.{List.[], Path.◌≡◌}
 use lib.ListN.{length, take, drop}
-use native.Mathlib.Omega.{arith}
 use Prim.Native.Nat.{◌-◌, ◌*◌, ◌≤◌}
-use borrow.Author.Rules.{rules}
 use Rattle.spec.specs.Promises.{machine_of}
 use Rattle.trace.specs.{Bounds.TraceRoom, Transcript.{store_trace, under}}
-use Rattle.text_lines.{specs.Programs.Passes, proofs.Passing.{take_none, passes-nothing, passes_on}}
+use Rattle.text_lines.{specs.Programs.Passes}
 use Rattle.trace.proofs.answering.fill.Given as goal
 
 abbrev pub invariant-loop-progress : goal.invariant-loop-progress

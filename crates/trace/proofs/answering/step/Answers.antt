@@ -2,12 +2,10 @@
 use mathlib.Core.Path.{ap}
 use lib.ListN.{length, drop, drop_of_length-le}
 use native.Mathlib.Omega.{arith}
-use borrow.Author.Rules.{rules}
 use Prim.Native.Nat.{ℕ, ◌≤◌}
 use Rattle.buffers.specs.Parts.{cut}
 use Rattle.text_lines.proofs.Passing.{off, on, take_none, of_room, pending-passes, answer-passes}
 use Rattle.trace.specs.Transcript.{store_trace}
-use mathlib.Core.Bool.{not}
 use Rattle.trace.proofs.answering.step.Goals as goal
 
 pub returns-then-not-scan : goal.returns-then-not-scan

@@ -14,4 +14,4 @@ else
     echo "$REPLAY is not there (tools/proved replay builds it)"
     exit 77
 fi
-"$BUILD/day" time || fail "recording costs more than 1.4 x"
+"$BUILD/day" time || fail "recording costs more than 2 x"

@@ -1,5 +1,6 @@
 -- Laws of the definitions in specs/: what a passed test of a call tells, and what the ranges say. Those of tests and sums by
 -- index come from octets.
+use Rattle.std.specs.declared.result.Result.TheVariants.{Ok, Err}
 use mathlib.Core.{Bool.{Bool, true, false, cond, not, ◌&&◌, ◌||◌}, List.List, Path.{◌≡◌, refl, sym, ap, ◌∙◌}}
 use lib.{Dec.{leb, eqb}, ListN.{get_or, length}}
 use Prim.Native.Nat.{ℕ, suc, ◌+◌, ◌≤◌, ◌<◌}
@@ -21,10 +22,10 @@ use Rattle.state.specs.declared.outcomes.Refusal.TheVariants.{FileClosed, NoSuch
 use Rattle.state.specs.declared.outcomes.Refusal.TheVariants.{BadBudget}
 use Rattle.admission.specs.FirstRefusal.{below, unless}
 use Rattle.admission.specs.Admission.{standing_in, ends_within, place_in, record_in, lengths_before, journal_in, transaction_in}
-use Rattle.admission.specs.Admission.{window_in, tables_in, landed_in, grant_passes, undo_in, store_in, Sizes, sizes_in}
+use Rattle.admission.specs.Admission.{window_in, tables_in, landed_in, grant_passes, undo_in, store_in, sizes_in}
+use Rattle.admission.specs.declared.Sizes.{Sizes}
 use Rattle.admission.specs.Admission.{first_tests, shared, window_refusal, admission_of_window, none_begun, admission_of_undo}
-use Rattle.admission.specs.{Admission.{admission_of_dispatch, admission_of_fresh, gate_number}, declared.Gate.Gate}
-use Rattle.admission.specs.declared.Gate.TheVariants.{Pass, Refused}
+use Rattle.admission.specs.Admission.{Gate, admission_of_dispatch, admission_of_fresh, gate_number}
 pub use Rattle.buffers.proofs.BelowLaws.{and_left, and_right, and_both, and-true}
 pub use Rattle.buffers.proofs.BelowLaws.{below-zero, below_more, below_at, below_all, below_fails, below-same}
 pub use Rattle.buffers.proofs.BelowLaws.{some-none, some_more, some-found, sum-zero, sum_more, sum_same}
@@ -113,11 +114,11 @@ number-suc BadBudget = (26, refl)
 -- What the gate of tests 1 and 2 tells of those after them.
 module _ (g : Gate) (z : Sizes) (s : StoreMeaning) (journal : List ℕ) (says : gate_number g ≡ first_tests z s journal 0)
     (later : ℕ) where
-  pub gate-before : (r : Refusal) → g ≡ Refused r → number r ≡ first_tests z s journal later
+  pub gate-before : (r : Refusal) → g ≡ Err r → number r ≡ first_tests z s journal later
   gate-before r e = unfold gate_number in let n = number-suc r in
       sym (first-refused z s journal later (number r) (sym (ap gate_number e) ∙ says) (let q = n.1 in omega arith))
 
-  pub gate-after : (n : ℕ) → g ≡ Pass → n ≡ later → n ≡ first_tests z s journal later
+  pub gate-after : (n : ℕ) → g ≡ Ok tt → n ≡ later → n ≡ first_tests z s journal later
   gate-after n e h = unfold gate_number in h ∙ sym (first-passed z s journal later (sym says ∙ ap gate_number e))
 
 -- A test of a call that passed, and the tests after it.
@@ -386,3 +387,8 @@ landed-in-intro d p n l m = unfold landed_in record_in place_in in and_both _ _ 
 
 pub place-within : (z : Standing) (a n : ℕ) → place_in z (After a) n ≡ true → ends_within z (a + n) ≡ true
 place-within z a n e = unfold place_in in and_right (leb (a + n) file_bytes) (ends_within z (a + n)) e
+
+-- What the gates of src/lib.rt cite.
+pub ruleset first = (first-lengths, first-ranges, first-later)
+
+pub ruleset gates = (gate-before, gate-after)

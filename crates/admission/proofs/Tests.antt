@@ -12,7 +12,7 @@ use Rattle.state.specs.declared.{Transaction.Transaction, Undo.Undo, StoreMeanin
 use Rattle.state.specs.{StoreMeaning.{no_descriptor, ended, transaction, standing_at, window_at}, declared.Descriptor.Descriptor}
 use Rattle.state.{specs.{Layout.{transaction_of, store_of, journal_of}, Journal.write_record_at}, proofs.LayoutLaws.transaction-of}
 use Rattle.state.specs.WriteEnds.{place_ends_by, ends_by}
-use Rattle.buffers.proofs.{PartLaws.le-or-lt, BelowLaws.below_both}
+use Rattle.buffers.proofs.{PartLaws.le-or-lt, BelowLaws.{below_both, none_yet, one_more}}
 use Rattle.windows.specs.Windows.{minute_in}
 use Rattle.admission.specs.FirstRefusal.{below}
 use Rattle.admission.specs.Admission.{standing_in, ends_within, place_in, record_in, lengths_before, journal_in, journal_passes}
@@ -318,3 +318,19 @@ module _ (r : List ℕ) where
 
   pub tables-pass : tables_pass ≡ true → (b : Bool) → b ≡ all_in r → b ≡ tables_in (store_of r) (journal_of r)
   tables-pass e b f = f ∙ sym (tables-decide ∙ rw e)
+
+-- What the functions of src/lib.rt cite.
+pub ruleset tests = (
+  none_yet,
+  one_more,
+  empty-in,
+  tables-pass,
+  tables-fail,
+  placed-decides,
+  unplaced-out,
+  nothing-to-undo,
+  grant-records-fail,
+  grant-bytes-fail,
+  found-fails,
+  grant-decides,
+)

@@ -1,5 +1,5 @@
 -- Paper 01, "Ranges for 2" [R-16.4], and the tests that every call shares.
-use Rattle.std.specs.Prelude.{Bool, true, false, not, ◌&&◌, ◌||◌, List, leb, eqb, get_or, length, ℕ, ◌+◌}
+use Rattle.std.specs.Prelude.{Bool, not, ◌&&◌, ◌||◌, List, leb, eqb, get_or, length, ℕ, ◌+◌}
 use Rattle.limits.specs.Limits.{file_count, last_file, file_bytes, buffer_bytes, descriptor_count}
 use Rattle.limits.specs.Limits.{last_descriptor, transaction_count, last_transaction, record_count}
 use Rattle.limits.specs.Limits.{log_bytes, undo_bytes}
@@ -15,9 +15,11 @@ use Rattle.state.specs.declared.StoreMeaning.{StoreMeaning}
 use Rattle.state.specs.declared.journal.WriteRecord.{WriteRecord}
 use Rattle.state.specs.StoreMeaning.{ended, transaction, standing_at, window_at}
 use Rattle.state.specs.Journal.{write_record_at, last_grant}
+use Rattle.std.specs.declared.result.Result.{Result}
+use Rattle.std.specs.declared.result.Result.TheVariants.{Ok, Err}
+use Rattle.state.specs.declared.outcomes.Refusal.{Refusal}
 use Rattle.state.specs.Outcomes.{number}
-use Rattle.admission.specs.declared.Gate.{Gate}
-use Rattle.admission.specs.declared.Gate.TheVariants.{Pass, Refused}
+use Rattle.admission.specs.declared.Sizes.{Sizes}
 use Rattle.admission.specs.FirstRefusal.{unless, below, sum}
 
 -- "offsets and advances of standings at most 4,096" [R-16.4]; one that a standing does not carry counts as 0
@@ -103,12 +105,6 @@ unfoldable pub store_in : StoreMeaning → List ℕ → Bool
 store_in s journal = tables_in s journal && undo_in s.undo journal
 
 -- The lengths of the store buffers.
-pub record Sizes : Type 0 where
-  pub files : ℕ
-  pub logs : ℕ
-  pub marks : ℕ
-  pub undo : ℕ
-
 abbrev pub sized : ℕ → ℕ → ℕ → ℕ → Sizes
 sized files logs marks undo = record { files = files; logs = logs; marks = marks; undo = undo }
 
@@ -166,7 +162,11 @@ admission_of_fresh z numbers =
     unless (sizes_in z && eqb (length numbers) descriptor_count) 1
     (unless (below (λ d. leb (get_or numbers d 0) last_file) descriptor_count) 14 0)
 
+-- What the tests before a call's own return: nothing, or a refusal.
+abbrev pub Gate : Type 0
+Gate = Result Unit Refusal
+
 -- A gate in paper 01's numbers; 0 stands for none.
 unfoldable pub gate_number : Gate → ℕ
-gate_number Pass = 0
-gate_number (Refused r) = number r
+gate_number (Ok _) = 0
+gate_number (Err r) = number r

@@ -12,7 +12,8 @@ use Rattle.state.specs.declared.journal.WriteRecord.{WriteRecord}
 use Rattle.state.specs.StoreMeaning.{no_descriptor, ended, begun, with_used, with_descriptors, with_begun}
 use Rattle.state.specs.StoreMeaning.{with_lengths, with_windows, with_undo, no_undo}
 use Rattle.state.specs.Journal.{last_grant, with_records}
-use Rattle.admission.specs.Admission.{record_in, landed_in, store_in, Sizes, sized, sizes_in, shared}
+use Rattle.admission.specs.Admission.{record_in, landed_in, store_in, sized, sizes_in, shared}
+use Rattle.admission.specs.declared.Sizes.{Sizes}
 use Rattle.admission.specs.Admission.{admission, admission_of_begin, admission_of_fresh}
 use Rattle.admission.specs.Admission.{admission_of_window, admission_of_undo, admission_of_dispatch}
 

@@ -16,31 +16,47 @@ ghost use Rattle.admission.specs.Admission.{admission_of_fresh, gate_number};
 
 use limits::{
     BUFFER_BYTES, FILE_BYTES, FILE_END, LAST_DESCRIPTOR, LAST_FILE, LAST_MINUTE, LAST_TRANSACTION,
-    LOG_BYTES, UNDO_BYTES, wide,
+    LOG_BYTES, UNDO_BYTES,
 };
 use standings::Place;
 use state::journal::{LAST_GRANT, RECORDS, ends_by, record_at, record_length};
-use state::layout::{State, can_undo, is_begun, length_of, undo_used, used_at};
+use state::layout::{State, can_undo, is_begun, undo_used, used_at};
 use state::outcomes::Refusal;
 use state::readers::{all_use_at_most, found_at_most, open_at_most, tables_at_most, uses_at_most};
 use state::{DESCRIPTORS, TRANSACTIONS};
 use windows::minute_in;
 
-// The last file and the last descriptor, as Fresh's list and as the state hold them.
-const LAST_LISTED_FILE: u8 = LAST_FILE as u8;
-
-const LAST_FILE_NUMBER: u16 = LAST_FILE as u16;
-
-const LAST_DESCRIPTOR_NUMBER: u16 = LAST_DESCRIPTOR as u16;
-
-// How many write records a transaction has at most, as the record holds it.
-const LAST_COUNT: u16 = RECORDS as u16;
-
-// What the tests before a call's own say: go on, or a refusal.
+// The lengths of the four store buffers that a call is lent.
 #[derive(Clone, Copy)]
-pub enum Gate {
-    Pass,
-    Refused(Refusal),
+pub struct Sizes {
+    pub files: usize,
+    pub logs: usize,
+    pub marks: usize,
+    pub undo: usize,
+}
+
+impl Sizes {
+    pub fn of(files: &[u8], logs: &[u8], marks: &[u8], undo: &[u8]) -> Sizes
+        ensures { result ≡ sized (length files.now) (length logs.now) (length marks.now) (length undo.now) }
+    {
+        Sizes {
+            files: files.len(),
+            logs: logs.len(),
+            marks: marks.len(),
+            undo: undo.len(),
+        }
+    }
+
+    // Each store buffer has 32,768 bytes, that of the old bytes 4,096.
+    #[tactic(auto, unfolding(crate::specs::Admission::sizes_in))]
+    fn are_in_range(self) -> bool
+        ensures { result ≡ sizes_in self }
+    {
+        (self.files == BUFFER_BYTES)
+            & (self.logs == BUFFER_BYTES)
+            & (self.marks == BUFFER_BYTES)
+            & (self.undo == UNDO_BYTES)
+    }
 }
 
 // Fresh's sixteen file numbers are at most 7.
@@ -48,14 +64,7 @@ fn files_in(files: &[u8]) -> bool
     requires { length files.now ≡ descriptor_count }
     ensures { result ≡ below (λ d. leb (get_or files.now d 0) last_file) descriptor_count }
 {
-    let mut d = 0;
-    while d < DESCRIPTORS {
-        if files[d] > LAST_LISTED_FILE {
-            return false;
-        }
-        d += 1;
-    }
-    true
+    files.iter().all(|file| usize::from(*file) <= LAST_FILE)
 }
 
 // The first write records of transaction t are in range, and their lengths add to bytes.
@@ -67,18 +76,17 @@ fn records_in(state: &State, t: usize, records: usize, bytes: usize) -> bool
         t records bytes }
 {
     let mut sum = 0;
-    let mut k = 0;
-    while k < records {
+    for k in 0..records {
         if !ends_by(state, t, k, FILE_BYTES) {
             return false;
         }
-        sum += wide(record_length(state, t, k));
-        k += 1;
+        sum += usize::from(record_length(state, t, k));
     }
     sum == bytes
 }
 
 // The write records of transaction t are in range where it is open, once its counters and standings are.
+#[tactic(auto, using(crate::proofs::Tests::tests))]
 fn journal_in(state: &State, t: usize) -> bool
     requires { (t < transaction_count)
         × ((not (transaction_of state.now t).begun
@@ -96,7 +104,7 @@ fn journal_in(state: &State, t: usize) -> bool
     }
     let used = used_at(state, t);
     let records = used.records;
-    let bytes = wide(used.bytes);
+    let bytes = usize::from(used.bytes);
     records_in(state, t, records, bytes)
 }
 
@@ -113,12 +121,10 @@ fn journals_in(state: &State) -> bool
         (transaction_of state.now t).used.records
         (transaction_of state.now t).used.bytes) transaction_count }
 {
-    let mut t = 0;
-    while t < TRANSACTIONS {
+    for t in 0..TRANSACTIONS {
         if !journal_in(state, t) {
             return false;
         }
-        t += 1;
     }
     true
 }
@@ -133,7 +139,7 @@ fn transactions_in(state: &State) -> bool
     if none_begun(state) {
         return true;
     }
-    if !open_at_most(state, LAST_COUNT, FILE_END, FILE_END) {
+    if !open_at_most(state, RECORDS as u16, FILE_END, FILE_END) {
         return false;
     }
     if all_use_at_most(state, 0, 0) {
@@ -143,20 +149,20 @@ fn transactions_in(state: &State) -> bool
 }
 
 // Everything is in range but what is held of the last grant.
+#[tactic(auto, using(crate::proofs::Tests::tests))]
 fn tables_in(state: &State) -> bool
     ensures { result ≡ tables_in (store_of state.now) (journal_of state.now) }
 {
-    if !tables_at_most(state, LAST_FILE_NUMBER, FILE_END, FILE_END, LAST_MINUTE) {
-        return false;
-    }
-    transactions_in(state)
+    tables_at_most(state, LAST_FILE as u16, FILE_END, FILE_END, LAST_MINUTE)
+        && transactions_in(state)
 }
 
 // A write of n bytes of the last grant is in range: it has a place.
+#[tactic(auto, using(crate::proofs::Tests::tests))]
 fn placed_in(place: Place, n: u16) -> bool
     ensures { result ≡ place_in Untouched place n }
 {
-    let end = wide(place.place_number()) + wide(n);
+    let end = usize::from(place.place_number()) + usize::from(n);
     match place {
         Place::At(_) => end <= FILE_BYTES,
         Place::After(_) => false,
@@ -169,23 +175,21 @@ fn grant_in(state: &State, records: usize, size: usize) -> bool
     ensures { result ≡ grant_passes (journal_of state.now) records size }
 {
     let mut sum = 0;
-    let mut k = 0;
-    while k < records {
+    for k in 0..records {
         let w = record_at(state, LAST_GRANT, k);
-        if LAST_DESCRIPTOR_NUMBER < w.descriptor {
+        if usize::from(w.descriptor) > LAST_DESCRIPTOR {
             return false;
         }
-        let place = w.place;
-        if !placed_in(place, w.length) {
+        if !placed_in(w.place, w.length) {
             return false;
         }
-        sum += wide(w.length);
-        k += 1;
+        sum += usize::from(w.length);
     }
     sum == size
 }
 
 // What is held of the last grant is in range.
+#[tactic(auto, using(crate::proofs::Tests::tests))]
 fn undo_in(state: &State) -> bool
     ensures { result ≡ undo_in (store_of state.now).undo (journal_of state.now) }
 {
@@ -194,158 +198,119 @@ fn undo_in(state: &State) -> bool
     }
     let used = undo_used(state);
     let records = used.records;
-    let size = wide(used.bytes);
+    let size = usize::from(used.bytes);
     if records > RECORDS {
         return false;
     }
     if size > LOG_BYTES {
         return false;
     }
-    if !found_at_most(state, FILE_END) {
-        return false;
-    }
-    grant_in(state, records, size)
+    found_at_most(state, FILE_END) && grant_in(state, records, size)
 }
 
 // The state is in range.
+#[tactic(auto, unfolding(crate::specs::Admission::store_in))]
 fn store_in(state: &State) -> bool
     ensures { result ≡ store_in (store_of state.now) (journal_of state.now) }
 {
-    if !tables_in(state) {
-        return false;
-    }
-    undo_in(state)
+    tables_in(state) && undo_in(state)
 }
 
-// Each store buffer has 32,768 bytes, that of the old bytes 4,096.
-fn sizes_in(files: usize, logs: usize, marks: usize, undo: usize) -> bool
-    ensures { result ≡ sizes_in (sized files logs marks undo) }
-{
-    if files != BUFFER_BYTES {
-        return false;
-    }
-    if logs != BUFFER_BYTES {
-        return false;
-    }
-    if marks != BUFFER_BYTES {
-        return false;
-    }
-    undo == UNDO_BYTES
-}
-
-// Refusals 1 and 2, for every call but Fresh. files, logs, marks and undo are the lengths of the lent
-// buffers.
-pub fn first_tests(state: &State, files: usize, logs: usize, marks: usize, undo: usize) -> Gate
-    ensures gate { gate_number result
-        ≡ first_tests (sized files logs marks undo)
+// Refusals 1 and 2, for every call but Fresh.
+#[tactic(auto, using(crate::proofs::Laws::first), unfolding(crate::specs::Admission::gate_number))]
+pub fn first_tests(state: &State, sizes: Sizes) -> Result<(), Refusal>
+    ensures { gate_number result
+        ≡ first_tests sizes
         (store_of state.now) (journal_of state.now) 0 }
-    ensures long { length state.now ≡ state_length }
 {
-    length_of(state);
-    if !sizes_in(files, logs, marks, undo) {
-        return Gate::Refused(Refusal::BufferLength);
+    if !sizes.are_in_range() {
+        return Err(Refusal::BufferLength);
     }
     if !store_in(state) {
-        return Gate::Refused(Refusal::RecordRange);
+        return Err(Refusal::RecordRange);
     }
-    Gate::Pass
+    Ok(())
 }
 
 // Refusals 1 to 3, for calls of a transaction.
-pub fn admit(state: &State, files: usize, logs: usize, marks: usize, undo: usize, t: usize) -> Gate
-    ensures gate { gate_number result
-        ≡ shared (sized files logs marks undo)
+#[tactic(auto, using(crate::proofs::Laws::gates), unfolding(crate::specs::Admission::gate_number, crate::specs::Admission::shared, crate::specs::FirstRefusal::unless))]
+pub fn admit(state: &State, sizes: Sizes, t: usize) -> Result<(), Refusal>
+    ensures { gate_number result
+        ≡ shared sizes
         (store_of state.now) (journal_of state.now) t 0 }
-    ensures long { length state.now ≡ state_length }
 {
-    let gate = first_tests(state, files, logs, marks, undo);
-    if let Gate::Refused(r) = gate {
-        return Gate::Refused(r);
-    }
+    first_tests(state, sizes)?;
     if t > LAST_TRANSACTION {
-        return Gate::Refused(Refusal::NoSuchTransaction);
+        return Err(Refusal::NoSuchTransaction);
     }
-    Gate::Pass
+    Ok(())
 }
 
 // Refusals 1, 2, 6 and 22, for the setting of file f's window.
 pub fn admit_window(
     state: &State,
-    files: usize,
-    logs: usize,
-    marks: usize,
-    undo: usize,
+    sizes: Sizes,
     f: usize,
     start: usize,
     end: usize,
-) -> Gate
-    ensures gate { gate_number result
-        ≡ admission_of_window (sized files logs marks undo)
+) -> Result<(), Refusal>
+    ensures { gate_number result
+        ≡ admission_of_window sizes
         (store_of state.now) (journal_of state.now)
         f start end }
-    ensures long { length state.now ≡ state_length }
 {
-    let gate = first_tests(state, files, logs, marks, undo);
-    if let Gate::Refused(r) = gate {
-        return Gate::Refused(r);
-    }
+    first_tests(state, sizes)?;
     if f > LAST_FILE {
-        return Gate::Refused(Refusal::NoSuchTarget);
+        return Err(Refusal::NoSuchTarget);
     }
-    if !minute_in(start) {
-        return Gate::Refused(Refusal::NoSuchMinute);
+    if !minute_in(start) || !minute_in(end) {
+        return Err(Refusal::NoSuchMinute);
     }
-    if !minute_in(end) {
-        return Gate::Refused(Refusal::NoSuchMinute);
-    }
-    Gate::Pass
+    Ok(())
 }
 
 // No transaction is open. No branch: it goes over all of them.
+#[tactic(auto, using(crate::proofs::Tests::tests))]
 pub fn none_begun(state: &State) -> bool
     ensures { result ≡ none_begun (store_of state.now) }
 {
     let mut none = true;
-    let mut t = 0;
-    while t < TRANSACTIONS {
-        none = none & !is_begun(state, t);
-        t += 1;
+    for t in 0..TRANSACTIONS {
+        none &= !is_begun(state, t);
     }
     none
 }
 
 // Refusals 1, 2, 23 and 24, for undoing the last grant.
-pub fn admit_undo(state: &State, files: usize, logs: usize, marks: usize, undo: usize) -> Gate
-    ensures gate { gate_number result
-        ≡ admission_of_undo (sized files logs marks undo) (store_of state.now)
+#[tactic(auto, using(crate::proofs::Laws::gates), unfolding(crate::specs::Admission::gate_number, crate::specs::Admission::admission_of_undo, crate::specs::FirstRefusal::unless))]
+pub fn admit_undo(state: &State, sizes: Sizes) -> Result<(), Refusal>
+    ensures { gate_number result
+        ≡ admission_of_undo sizes (store_of state.now)
         (journal_of state.now) }
-    ensures long { length state.now ≡ state_length }
 {
-    let gate = first_tests(state, files, logs, marks, undo);
-    if let Gate::Refused(r) = gate {
-        return Gate::Refused(r);
-    }
+    first_tests(state, sizes)?;
     if !none_begun(state) {
-        return Gate::Refused(Refusal::StillOpen);
+        return Err(Refusal::StillOpen);
     }
     if !can_undo(state) {
-        return Gate::Refused(Refusal::NoGrant);
+        return Err(Refusal::NoGrant);
     }
-    Gate::Pass
+    Ok(())
 }
 
 // Refusals 1 and 14, for Fresh.
-pub fn admit_fresh(files: usize, logs: usize, marks: usize, undo: usize, numbers: &[u8]) -> Gate
-    ensures { gate_number result ≡ admission_of_fresh (sized files logs marks undo) numbers.now }
+#[tactic(auto, unfolding(crate::specs::Admission::admission_of_fresh, crate::specs::Admission::gate_number, crate::specs::FirstRefusal::unless))]
+pub fn admit_fresh(sizes: Sizes, numbers: &[u8]) -> Result<(), Refusal>
+    ensures { gate_number result ≡ admission_of_fresh sizes numbers.now }
 {
-    if !sizes_in(files, logs, marks, undo) {
-        return Gate::Refused(Refusal::BufferLength);
+    if !sizes.are_in_range() {
+        return Err(Refusal::BufferLength);
     }
     if numbers.len() != DESCRIPTORS {
-        return Gate::Refused(Refusal::BufferLength);
+        return Err(Refusal::BufferLength);
     }
     if !files_in(numbers) {
-        return Gate::Refused(Refusal::NoSuchFile);
+        return Err(Refusal::NoSuchFile);
     }
-    Gate::Pass
+    Ok(())
 }

@@ -6,10 +6,9 @@
 
 ghost use Rattle.std.specs.Prelude.{◌+◌, ◌<◌, ◌≤◌, length};
 
-use buffers::parts;
 use requests::Request;
 use state::layout::{State, length_at, offset_at};
-use state::outcomes::Outcome;
+use state::outcomes::{Answer, Outcome};
 
 const STEP: usize = 8;
 
@@ -26,14 +25,8 @@ struct Step {
     from: usize,
 }
 
-fn wide(x: u8) -> usize
-    ensures { result ≤ 255 }
-{
-    x as usize
-}
-
 fn sixteen_bits(low: u8, high: u8) -> usize {
-    wide(low) + 256 * wide(high)
+    usize::from(low) + 256 * usize::from(high)
 }
 
 // The step at octet `at` of the script.
@@ -42,8 +35,8 @@ fn step_at(script: &[u8], at: usize) -> Step
 {
     Step {
         kind: script[at],
-        t: wide(script[at + 1]),
-        d: wide(script[at + 2]),
+        t: usize::from(script[at + 1]),
+        d: usize::from(script[at + 2]),
         n: sixteen_bits(script[at + 4], script[at + 5]),
         from: sixteen_bits(script[at + 6], script[at + 7]),
     }
@@ -51,19 +44,15 @@ fn step_at(script: &[u8], at: usize) -> Step
 
 // The part of data that a step names, or all of data where it reaches past the end.
 fn named<'a>(data: &'a [u8], from: usize, n: usize) -> &'a [u8] {
-    if data.len() < from {
+    if from > data.len() || n > data.len() - from {
         return data;
     }
-    if data.len() - from < n {
-        return data;
-    }
-    parts::part(data, from, n)
+    &data[from..from + n]
 }
 
 // The call of a step that is no Fresh, as a line of a log has it. A kind above 10 is an Abort too.
 fn request(s: Step) -> Request {
-    let kind = s.kind;
-    match kind {
+    match s.kind {
         1 => Request::Begin(s.t),
         2 => Request::Seek(s.t, s.d, s.n),
         3 => Request::Write(s.t, s.d),
@@ -80,41 +69,24 @@ fn request(s: Step) -> Request {
 // What a call came to. The code is 0 done, 1 an offset, 2 a count of bytes, 3 granted, 4 a count of pairs,
 // 6 an order, and 10 more than a refusal's number; the number is the one that the outcome carries.
 #[derive(Clone, Copy)]
-struct Answer {
+struct Reply {
     code: u8,
     number: u64,
 }
 
 // One match on the outcome, in each place that makes a call: the compiler then knows which outcomes that call
 // has, as it does in the harness of the store in C.
-fn answer_of(o: Outcome) -> Answer {
-    match o {
-        Outcome::Done => Answer { code: 0, number: 0 },
-        Outcome::Offset(n) => Answer {
-            code: 1,
-            number: n as u64,
-        },
-        Outcome::Given(n) => Answer {
-            code: 2,
-            number: n as u64,
-        },
-        Outcome::Granted(n) => Answer {
-            code: 3,
-            number: n as u64,
-        },
-        Outcome::Pairs(n) => Answer {
-            code: 4,
-            number: n as u64,
-        },
-        Outcome::Ordered(n, _, _) => Answer {
-            code: 6,
-            number: n as u64,
-        },
-        Outcome::Refused(r) => Answer {
-            code: std::num::wrapping_add_u8(10, r.number()),
-            number: 0,
-        },
-    }
+fn reply_of(o: Outcome) -> Reply {
+    let (code, number) = match o {
+        Ok(Answer::Done) => (0, 0),
+        Ok(Answer::Offset(n)) => (1, u64::from(n)),
+        Ok(Answer::Given(n)) => (2, u64::from(n)),
+        Ok(Answer::Granted(n)) => (3, u64::from(n)),
+        Ok(Answer::Pairs(n)) => (4, u64::from(n)),
+        Ok(Answer::Ordered(n, _, _)) => (6, u64::from(n)),
+        Err(r) => (r.number().wrapping_add(10), 0),
+    };
+    Reply { code, number }
 }
 
 // Makes the call of a step. Kind 0 is Fresh, a kind above 10 an Abort.
@@ -127,21 +99,20 @@ fn made(
     s: Step,
     data: &[u8],
     reader: &mut [u8],
-) -> Answer {
+) -> Reply {
     let bytes = named(data, s.from, s.n);
-    let kind = s.kind;
-    match kind {
-        0 => answer_of(store::fresh(state, files, logs, marks, undo, bytes)),
-        1 => answer_of(store::begin(state, files, logs, marks, undo, s.t)),
-        2 => answer_of(store::seek(state, files, logs, marks, undo, s.t, s.d, s.n)),
-        3 => answer_of(store::write(state, files, logs, marks, undo, s.t, s.d, bytes)),
-        4 => answer_of(store::get_file_pointer(state, files, logs, marks, undo, s.t, s.d)),
-        5 => answer_of(store::read(state, files, logs, marks, undo, s.t, s.d, s.n, reader)),
-        6 => answer_of(store::commit(state, files, logs, marks, undo, s.t, s.n)),
-        8 => answer_of(store::undo_commit(state, files, logs, marks, undo)),
-        9 => answer_of(store::places(state, files, logs, marks, undo, s.t, s.d, reader)),
-        10 => answer_of(store::set_window(state, files, logs, marks, undo, s.d, s.n, s.from)),
-        _ => answer_of(store::abort(state, files, logs, marks, undo, s.t)),
+    match s.kind {
+        0 => reply_of(store::fresh(state, files, logs, marks, undo, bytes)),
+        1 => reply_of(store::begin(state, files, logs, marks, undo, s.t)),
+        2 => reply_of(store::seek(state, files, logs, marks, undo, s.t, s.d, s.n)),
+        3 => reply_of(store::write(state, files, logs, marks, undo, s.t, s.d, bytes)),
+        4 => reply_of(store::get_file_pointer(state, files, logs, marks, undo, s.t, s.d)),
+        5 => reply_of(store::read(state, files, logs, marks, undo, s.t, s.d, s.n, reader)),
+        6 => reply_of(store::commit(state, files, logs, marks, undo, s.t, s.n)),
+        8 => reply_of(store::undo_commit(state, files, logs, marks, undo)),
+        9 => reply_of(store::places(state, files, logs, marks, undo, s.t, s.d, reader)),
+        10 => reply_of(store::set_window(state, files, logs, marks, undo, s.d, s.n, s.from)),
+        _ => reply_of(store::abort(state, files, logs, marks, undo, s.t)),
     }
 }
 
@@ -165,17 +136,12 @@ fn pass(
     reader: &mut [u8],
     said: &mut [u8],
 ) -> u64 {
-    let mut sum = 0;
-    let mut start = 0;
-    let mut i = 0;
-    while STEP <= script.len() - start {
-        let at = i;
-        let s = step_at(script, start);
-        start += STEP;
-        i += 1;
-        let a = made(state, files, logs, marks, undo, s, data, reader);
-        sum = std::num::wrapping_add_u64(sum, a.number);
-        note(said, at, a.code);
+    let mut sum: u64 = 0;
+    for i in 0..script.len() / STEP {
+        let s = step_at(script, STEP * i);
+        let reply = made(state, files, logs, marks, undo, s, data, reader);
+        sum = sum.wrapping_add(reply.number);
+        note(said, i, reply.code);
     }
     sum
 }
@@ -194,12 +160,10 @@ pub extern "C" fn bench_calls_run(
     said: &mut [u8],
     rounds: usize,
 ) -> u64 {
-    let mut sum = 0;
-    let mut i = 0;
-    while i < rounds {
-        i += 1;
+    let mut sum: u64 = 0;
+    for _ in 0..rounds {
         let answered = pass(state, files, logs, marks, undo, script, data, reader, said);
-        sum = std::num::wrapping_add_u64(sum, answered);
+        sum = sum.wrapping_add(answered);
     }
     sum
 }
@@ -220,13 +184,10 @@ fn put_line(out: &mut [u8], s: Step, data: &[u8], room: usize) -> usize
 fn put_lines(script: &[u8], data: &[u8], out: &mut [u8], room: usize) -> u64
     requires { 8238 ≤ length out.old }
 {
-    let mut sum = 0;
-    let mut start = 0;
-    while STEP <= script.len() - start {
-        let s = step_at(script, start);
-        start += STEP;
-        let n = put_line(out, s, data, room);
-        sum = std::num::wrapping_add_u64(sum, n as u64);
+    let mut sum: u64 = 0;
+    for i in 0..script.len() / STEP {
+        let n = put_line(out, step_at(script, STEP * i), data, room);
+        sum = sum.wrapping_add(n as u64);
     }
     sum
 }
@@ -244,11 +205,9 @@ pub extern "C" fn bench_calls_lines(
     if out.len() < LINE {
         return 0;
     }
-    let mut sum = 0;
-    let mut i = 0;
-    while i < rounds {
-        i += 1;
-        sum = std::num::wrapping_add_u64(sum, put_lines(script, data, out, room));
+    let mut sum: u64 = 0;
+    for _ in 0..rounds {
+        sum = sum.wrapping_add(put_lines(script, data, out, room));
     }
     sum
 }
@@ -263,19 +222,10 @@ fn committed_at(state: &State, i: usize) -> u16
     length_at(state, i - 16)
 }
 
-// Puts n at i, if there is room.
-fn note_number(out: &mut [u16], i: usize, n: u16) {
-    if i < out.len() {
-        out[i] = n;
-    }
-}
-
 // Puts the sixteen committed offsets and behind them the eight lengths, as far as `out` has room.
 #[unsafe(no_mangle)]
 pub extern "C" fn bench_calls_committed(state: &State, out: &mut [u16]) {
-    let mut i = 0;
-    while i < 24 {
-        note_number(out, i, committed_at(state, i));
-        i += 1;
+    for i in 0..out.len().min(24) {
+        out[i] = committed_at(state, i);
     }
 }

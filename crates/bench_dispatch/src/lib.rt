@@ -4,7 +4,7 @@
 
 use dispatcher::scripts::{ScriptCall, Scripts};
 use state::layout::State;
-use state::outcomes::Outcome;
+use state::outcomes::{Answer, Outcome};
 
 // The minute for which an order is asked, and at which scripts are dispatched.
 const MINUTE: usize = 0;
@@ -12,7 +12,7 @@ const MINUTE: usize = 0;
 // The grants of an order; 0 of any other outcome.
 fn grants(o: Outcome) -> u64 {
     match o {
-        Outcome::Ordered(n, _, _) => n as u64,
+        Ok(Answer::Ordered(n, _, _)) => u64::from(n),
         _ => 0,
     }
 }
@@ -29,13 +29,10 @@ pub extern "C" fn bench_dispatch_order<'a>(
     budget: usize,
     rounds: usize,
 ) -> u64 {
-    let mut sum = 0;
-    let mut i = 0;
-    while i < rounds {
-        i += 1;
-        let b = call_order::best_order(state, files, logs, marks, undo, list, MINUTE, budget);
-        let o = b.outcome;
-        sum = std::num::wrapping_add_u64(sum, grants(o));
+    let mut sum: u64 = 0;
+    for _ in 0..rounds {
+        let best = call_order::best_order(state, files, logs, marks, undo, list, MINUTE, budget);
+        sum = sum.wrapping_add(grants(best.outcome));
     }
     sum
 }
@@ -51,10 +48,8 @@ fn with_task(scripts: Scripts, k: usize) -> Scripts {
 // Eight scripts of four calls.
 fn tasks() -> Scripts {
     let mut scripts = Scripts::new(8);
-    let mut k = 0;
-    while k < 8 {
+    for k in 0..8 {
         scripts = with_task(scripts, k);
-        k += 1;
     }
     scripts
 }
@@ -72,14 +67,12 @@ pub extern "C" fn bench_dispatch_run(
     rounds: usize,
 ) -> u64 {
     let scripts = tasks();
-    let mut sum = 0;
-    let mut i = 0;
-    while i < rounds {
-        i += 1;
+    let mut sum: u64 = 0;
+    for _ in 0..rounds {
         let d = dispatcher::dispatch(
             state, files, logs, marks, undo, scripts, data, reader, MINUTE,
         );
-        sum = std::num::wrapping_add_u64(sum, d.commits as u64);
+        sum = sum.wrapping_add(d.commits as u64);
     }
     sum
 }

@@ -1,15 +1,17 @@
 -- The laws of bits, and of a range of octets that is cleared. Assumes nothing.
-use mathlib.Core.{Path.{◌≡◌, refl, sym, ap, ap₂, ◌∙◌}, Bool.{Bool, true, false, cond, not, ◌||◌, or-true, or-false}, List.List}
+use mathlib.Core.{Path.{◌≡◌, refl, sym, ap, ap₂, ◌∙◌}, Bool.{Bool, true, false, cond, not, ◌||◌, or-true, or-false}, List.{List, []}}
 use mathlib.Core.Logic.{◌⊎◌, inl, inr, ⊎_elim}
 use Prim.Native.Nat.{ℕ, zero, suc, ◌+◌, ◌-◌, ◌*◌, ◌^◌, ◌/◌, ◌%◌, ◌≤◌, ◌<◌, max}
 use native.Mathlib.Nat.{zero-mul, one-mul, suc-mul, add-zero, add-suc, add_comm, max-zero, div-one, div_self, div-eq_of_lt}
 use native.Mathlib.Nat.{zero-div, mod-lt, mod-eq_of_lt, mul-mod_left, mul-add-mod_self_right, div-div-eq-div-mul, pow-suc}
-use native.Mathlib.{Nat.mul_comm, Numerals.add-one, Omega.arith}
-use lib.{Dec.eqb, ListN.{length, get_or, set, length-set, get_or-eq_default}}
+use native.Mathlib.{Nat.mul_comm, Omega.arith}
+use lib.{Dec.eqb, ListN.{length, replicate, get_or, set, length-set, get_or-eq_default}}
 use lib.Bits.{bit_and, bit_or, or_shr, or_step, or_zero_r, or_lt, or_add_and, or_shifted_r, and_zero_r, and_le_l, and_le_r}
 use lib.{Bits.{and_mask, and_high}, Seq.{get_or-set_same, get_or-set_other, set_out}}
 use lib.Pow.{pow_pos, pow-lt, pow_mono, pow-add, shl-shr, shr-shr, shl_exact, mod-pow-add}
 use borrow.Author.Tests.{eqb-true, eqb-false, eq-eqb, ne_eqb}
+use lib.Seq.{paste}
+use Rattle.std.proofs.lemmas.List.Edits.{paste_none, fill_from_more}
 use Rattle.buffers.specs.Bits.{bit, with_bit, span, cleared}
 use Rattle.buffers.proofs.PartLaws.{le-or-lt}
 
@@ -148,11 +150,13 @@ some_or a b = pick (eqb a 0) refl (eqb b 0) refl
 
 -- ---- a range that is cleared
 
-pub cleared-none : (from : ℕ) (xs : List ℕ) → cleared from 0 xs ≡ xs
-cleared-none from xs = unfold cleared in refl
-
-pub cleared_more : (from n : ℕ) (xs : List ℕ) → set (cleared from n xs) (from + n) 0 ≡ cleared from (n + 1) xs
-cleared_more from n xs = unfold cleared in ap (λ (k : ℕ). cleared from k xs) (sym (add-one n))
+-- as the code clears it, by one `fill`
+pub cleared-fill : (from n : ℕ) (xs : List ℕ) → from + n ≤ length xs → paste xs from (replicate n 0) n ≡ cleared from n xs
+unfolding cleared
+cleared-fill from zero xs h = sym (paste_none xs from [])
+cleared-fill from (suc n) xs h = let next : suc n ≡ n + 1 = omega arith in
+    ap (λ (k : ℕ). paste xs from (replicate k 0) k) next ∙ sym (fill_from_more xs from n 0 (omega arith))
+    ∙ ap (λ (l : List ℕ). set l (from + n) 0) (cleared-fill from n xs (omega arith))
 
 pub length-cleared : (from n : ℕ) (xs : List ℕ) → length (cleared from n xs) ≡ length xs
 unfolding cleared

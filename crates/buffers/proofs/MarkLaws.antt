@@ -1,11 +1,13 @@
 -- The laws of marks, and of sets of transactions. Assumes nothing.
 use mathlib.Core.Path.{◌≡◌, refl, sym, ap, ap₂, ◌∙◌}
-use mathlib.Core.{Bool.{Bool, true, false, cond, not, ◌&&◌, ◌||◌, and-false, or-false, or_assoc}, List.List}
+use mathlib.Core.{Bool.{Bool, true, false, cond, not, ◌&&◌, ◌||◌, and-false, or-false, or_assoc}, List.{List, []}}
 use mathlib.Core.Logic.{inl, inr, ⊎_elim}
 use Prim.Native.Nat.{ℕ, zero, suc, ◌+◌, ◌-◌, ◌*◌, ◌/◌, ◌%◌, ◌≤◌, ◌<◌}
 use native.Mathlib.{Nat.{add_assoc, add-zero, add-suc}, Numerals.add-one, Omega.arith}
-use lib.{Bits.{bit_and, bit_or}, Dec.{eqb, ltb}, ListN.{length, get_or, set, length-set}}
-use lib.Seq.{get_or-set_same, get_or-set_other, set-get_or, set-set, set_out}
+use lib.{Bits.{bit_and, bit_or}, Dec.{eqb, ltb}, ListN.{length, take, drop, replicate, get_or, set, length-set, length-drop}}
+use lib.Seq.{get_or-set_same, get_or-set_other, set-get_or, set-set, set_out, get_or-drop, paste}
+use Rattle.std.specs.List.{fold}
+use Rattle.std.proofs.lemmas.List.{Edits.{paste_none, fill_from_more}, Sums.fold_more}
 use borrow.Author.Tests.{eqb-true, eqb-false, eq-eqb, ne_eqb, ltb-true, ltb-false, lt-ltb}
 use Rattle.limits.specs.Limits.{buffer_bytes, transaction_count, mark_octets}
 use Rattle.buffers.specs.Bits.{bit, with_bit, span, in_first, between, first_bits, last_bits, cleared}
@@ -235,7 +237,7 @@ module _ (t from k : ℕ) (whole : from % 8 ≡ 0) (inside : from + 8 * k + 8 �
   next = omega arith
 
   -- octet k is set
-  pub octets-marked : (marks : List ℕ) → t < transaction_count → length marks ≡ buffer_bytes → ((i : ℕ) → get_or marks i 0 < 256)
+  octets-marked : (marks : List ℕ) → t < transaction_count → length marks ≡ buffer_bytes → ((i : ℕ) → get_or marks i 0 < 256)
       → set (with_marks t from (8 * k) marks) (mark_octets * t + from / 8 + k) (span 0 8) ≡ with_marks t from (8 * (k + 1)) marks
   octets-marked marks small size octets = let ys = with_marks t from (8 * k) marks in
       let i = mark_octets * t + from / 8 + k in
@@ -245,13 +247,40 @@ module _ (t from k : ℕ) (whole : from % 8 ≡ 0) (inside : from + 8 * k + 8 �
       ∙ with-marks-add t from (8 * k) 8 marks ∙ ap (λ (n : ℕ). with_marks t from n marks) next
 
   -- octet k is read
-  pub octets-has : (marks : List ℕ) (found : ℕ) → get_or marks (mark_octets * t + from / 8 + k) 0 < 256
+  octets-has : (marks : List ℕ) (found : ℕ) → get_or marks (mark_octets * t + from / 8 + k) 0 < 256
       → not (eqb found 0) ≡ has_mark_in marks t from (8 * k)
       → not (eqb (bit_or found (get_or marks (mark_octets * t + from / 8 + k) 0)) 0) ≡ has_mark_in marks t from (8 * (k + 1))
   octets-has marks found octet e = let i = mark_octets * t + from / 8 + k in let x = get_or marks i 0 in
       some_or found x ∙ ap₂ ◌||◌ e (ap (λ (y : ℕ). not (eqb y 0)) (sym (some-octet x octet)) ∙ ap₂ (λ (j b : ℕ). not
       (eqb (bit_and (get_or marks j 0) (span b 8)) 0)) (sym place) (sym first) ∙ sym (octet-has t (from + 8 * k) marks 8
       (omega arith) (omega arith))) ∙ sym (has-in-add marks t from (8 * k) 8) ∙ ap (has_mark_in marks t from) next
+
+-- and k octets, as the code does them: set by one `fill`, and read by one `fold`
+pub octets-filled : (t from k : ℕ) → (0 < k → from % 8 ≡ 0) → from + 8 * k ≤ buffer_bytes → t < transaction_count
+    → (marks : List ℕ) → length marks ≡ buffer_bytes → ((i : ℕ) → get_or marks i 0 < 256)
+    → paste marks (mark_octets * t + from / 8) (replicate k 255) k ≡ with_marks t from (8 * k) marks
+octets-filled t from zero whole inside small marks size octets =
+    sym (with-marks-none t from marks ∙ paste_none marks (mark_octets * t + from / 8) [])
+octets-filled t from (suc k) whole inside small marks size octets = let i = mark_octets * t + from / 8 in
+    let next : suc k ≡ k + 1 = omega arith in let all : 255 ≡ span 0 8 = unfold span in refl in
+    ap (λ (n : ℕ). paste marks i (replicate n 255) n) next ∙ sym (fill_from_more marks i k 255 (omega arith))
+    ∙ ap₂ (λ (l : List ℕ) (x : ℕ). set l (i + k) x)
+    (octets-filled t from k (λ l. whole (omega arith)) (omega arith) small marks size octets) all
+    ∙ octets-marked t from k (whole (omega arith)) (omega arith) marks small size octets
+    ∙ ap (λ (n : ℕ). with_marks t from (8 * n) marks) (sym next)
+
+pub octets-folded : (t from k : ℕ) → (0 < k → from % 8 ≡ 0) → from + 8 * k ≤ buffer_bytes → t < transaction_count
+    → (marks : List ℕ) → length marks ≡ buffer_bytes → ((i : ℕ) → get_or marks i 0 < 256)
+    → not (eqb (fold bit_or 0 (take k (drop (mark_octets * t + from / 8) marks))) 0) ≡ has_mark_in marks t from (8 * k)
+octets-folded t from zero whole inside small marks size octets = sym (has-in-none marks t from)
+octets-folded t from (suc k) whole inside small marks size octets = let i = mark_octets * t + from / 8 in
+    let next : suc k ≡ k + 1 = omega arith in let here : k < length (drop i marks) = rw length-drop (omega arith) in
+    ap (λ (n : ℕ). not (eqb (fold bit_or 0 (take n (drop i marks))) 0)) next
+    ∙ ap (λ (x : ℕ). not (eqb x 0)) (fold_more bit_or 0 (drop i marks) k 0 here
+    ∙ ap (bit_or (fold bit_or 0 (take k (drop i marks)))) (get_or-drop i marks k 0))
+    ∙ octets-has t from k (whole (omega arith)) (omega arith) marks _ (octets (i + k))
+    (octets-folded t from k (λ l. whole (omega arith)) (omega arith) small marks size octets)
+    ∙ ap (λ (n : ℕ). has_mark_in marks t from (8 * n)) (sym next)
 
 -- ---- a range by the masks of its ends
 

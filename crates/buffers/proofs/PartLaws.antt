@@ -4,9 +4,10 @@ use mathlib.Core.Logic.{◌⊎◌, inl, inr}
 use Prim.Native.Nat.{ℕ, zero, suc, ◌+◌, ◌-◌, ◌*◌, ◌≤◌, ◌<◌, min}
 use native.Mathlib.{Nat.{add_assoc, suc-sub-suc, add-zero, zero-sub, sub-zero}, Omega.arith}
 use lib.Dec.{leb}
-use lib.ListN.{length, take, drop, get_or, set, length-append, length-take, length-drop, take-append-drop, get_or-append}
+use lib.ListN.{length, take, drop, replicate, get_or, set, length-append, length-take, length-drop, take-append-drop, get_or-append}
 use lib.Seq.{length-take-le, take-nil, drop-cons, set_at, take_at, drop_at, take-take, drop-drop, take-add, drop-append-le}
-use lib.Seq.{drop-append-add, get_or-append-add, get_or-take, get_or-drop, ext_get_or, append_snoc, sets, sets-eq}
+use lib.Seq.{drop-append-add, get_or-append-add, get_or-take, get_or-drop, ext_get_or, append_snoc, sets, sets-eq, paste}
+use Rattle.std.proofs.lemmas.{List.length-replicate, Slice.put_mid-paste}
 use borrow.{Rule.Slice.PartMut.{mid_of, put_mid, Post-is}, Author.Tests.{leb-true, leb-false}}
 use Rattle.limits.specs.Limits.{file_count, file_bytes, buffer_bytes}
 use Rattle.buffers.specs.Parts.{pasted, cut, file_part}
@@ -175,12 +176,21 @@ pasted-part d a n at s h g = unfold pasted cut in let x = drop a d in
     ∙ ap₂ (λ (p : List ℕ) (m : ℕ). p ++ (s ++ drop m d)) (sym (take-add a at d)) (sym (add_assoc a at (length s)))
 
 -- a part that was lent as `&mut d[a..a + n]` and pasted into, when it is back
-pub pasted-lent : (d : List ℕ) (a n at : ℕ) (s y : List ℕ) → a + n ≤ length d → at + length s ≤ n
+pub pasted_lent : (d : List ℕ) (a n at : ℕ) (s y : List ℕ) → a + n ≤ length d → at + length s ≤ n
     → y ≡ pasted (mid_of a (a + n - a) d) at s → put_mid a (a + n - a) d y ≡ pasted d (a + at) s
-pasted-lent d a n at s y h g e = unfold pasted in let y' = pasted (cut d a n) at s in
+pasted_lent d a n at s y h g e = unfold pasted in let y' = pasted (cut d a n) at s in
     ap₂ (λ (p q : List ℕ). take a d ++ (p ++ q)) (e ∙ ap (λ (l : List ℕ). pasted l at s) (cut_range d a n))
     (Post-is a (a + n) d (omega arith))
     ∙ ap (λ (m : ℕ). take a d ++ (y' ++ drop (a + m) d)) (sym (length-inner d a n at s h g)) ∙ pasted-part d a n at s h g
+
+-- ---- a part that is filled
+
+-- what `d[at..at + n].fill(v)` leaves; ys is what the part holds after it
+pub filled : (d : List ℕ) (at n v : ℕ) (ys : List ℕ) → at + n ≤ length d
+    → ys ≡ replicate (length (take (at + n - at) (drop at d))) v → put_mid at (at + n - at) d ys ≡ paste d at (replicate n v) n
+filled d at n v ys h e = let size : length (take (at + n - at) (drop at d)) ≡ n = simp (length-take, length-drop) (omega arith) in
+    put_mid-paste at (at + n - at) d ys (replicate n v) n (e ∙ ap (λ (k : ℕ). replicate k v) size) (omega arith)
+    (sym (length-replicate n v))
 
 -- ---- the files of the store buffer
 

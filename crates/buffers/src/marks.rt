@@ -5,8 +5,8 @@ ghost use Rattle.limits.specs.Limits.{buffer_bytes, transaction_count};
 ghost use Rattle.buffers.specs.Bits.{span, between, first_bits, last_bits};
 ghost use Rattle.buffers.specs.Marks.{with_marks, without_marks, has_mark_in, contains};
 
-use crate::transaction_sets::{contains, with};
-use limits::{MARK_OCTETS, TRANSACTIONS, over, smaller};
+use crate::transaction_sets::{contains, those};
+use limits::MARK_OCTETS;
 
 // The octet with the n bits from `low` on.
 fn span(low: usize, n: usize) -> u8
@@ -21,7 +21,7 @@ pub fn mark(marks: &mut [u8], t: usize, from: usize, n: usize)
     requires { (t < transaction_count) × ((from + n ≤ buffer_bytes) × (length marks.old ≡ buffer_bytes)) }
     ensures { marks.new ≡ with_marks t from n marks.old }
 {
-    let head = smaller(n, (8 - from % 8) % 8);
+    let head = n.min((8 - from % 8) % 8);
     let whole = (n - head) / 8;
     let done = head + whole * 8;
     mark_bits(marks, t, from, head);
@@ -39,7 +39,7 @@ fn mark_bits(marks: &mut [u8], t: usize, from: usize, n: usize)
         return;
     }
     let i = MARK_OCTETS * t + from / 8;
-    marks[i] = marks[i] | span(from % 8, n);
+    marks[i] |= span(from % 8, n);
 }
 
 // Transaction t marks the bytes whose marks are n whole octets.
@@ -49,12 +49,7 @@ fn mark_octets(marks: &mut [u8], t: usize, from: usize, n: usize)
     ensures { marks.new ≡ with_marks t from (8 * n) marks.old }
 {
     let start = MARK_OCTETS * t + from / 8;
-    let full = span(0, 8);
-    let mut i = 0;
-    while i < n {
-        marks[start + i] = full;
-        i += 1;
-    }
+    marks[start..start + n].fill(u8::MAX);
 }
 
 // Clears transaction t's marks.
@@ -63,11 +58,7 @@ pub fn unmark(marks: &mut [u8], t: usize)
     ensures { marks.new ≡ without_marks t marks.old }
 {
     let start = MARK_OCTETS * t;
-    let mut i = 0;
-    while i < MARK_OCTETS {
-        marks[start + i] = 0;
-        i += 1;
-    }
+    marks[start..start + MARK_OCTETS].fill(0);
 }
 
 // Whether transaction t has marked some of the bytes from `from` on whose marks are n whole octets.
@@ -77,13 +68,9 @@ fn has_mark_in_octets(marks: &[u8], t: usize, from: usize, n: usize) -> bool
     ensures { result ≡ has_mark_in marks.now t from (8 * n) }
 {
     let start = MARK_OCTETS * t + from / 8;
-    let mut found = 0u8;
-    let mut i = 0;
-    while i < n {
-        found = found | marks[start + i];
-        i += 1;
-    }
-    found != 0
+    // All octets are joined, with no early end: so it runs as vector code.
+    let octets = &marks[start..start + n];
+    octets.iter().fold(0, |joined, octet| joined | octet) != 0
 }
 
 // How many whole octets stand between the first and the last of those that hold the marks of n bytes from
@@ -91,8 +78,8 @@ fn has_mark_in_octets(marks: &[u8], t: usize, from: usize, n: usize) -> bool
 fn between(from: usize, n: usize) -> usize
     ensures { result ≡ between from n }
 {
-    let head = smaller(n, 8 - from % 8);
-    over(n - head, 1) / 8
+    let head = n.min(8 - from % 8);
+    (n - head).saturating_sub(1) / 8
 }
 
 // Whether transaction t has marked some of the n bytes from `from` on. Two masks are given: the bits of these
@@ -105,11 +92,9 @@ fn has_mark_in(marks: &[u8], t: usize, from: usize, n: usize, first: u8, last: u
 {
     let start = MARK_OCTETS * t;
     let end = from + n - 1;
-    if (marks[start + from / 8] & first) | (marks[start + end / 8] & last) != 0 {
-        return true;
-    }
-    let head = smaller(n, 8 - from % 8);
-    has_mark_in_octets(marks, t, from + head, between(from, n))
+    let ends = (marks[start + from / 8] & first) | (marks[start + end / 8] & last);
+    let head = n.min(8 - from % 8);
+    ends != 0 || has_mark_in_octets(marks, t, from + head, between(from, n))
 }
 
 // Those of the watched transactions that have marked some of the n bytes from `from` on. The masks of their
@@ -122,18 +107,8 @@ pub fn markers(marks: &[u8], watched: u8, from: usize, n: usize) -> u8
     if n == 0 {
         return 0;
     }
-    let head = smaller(n, 8 - from % 8);
+    let head = n.min(8 - from % 8);
     let first = span(from % 8, head);
     let last = span(0, n - head - 8 * between(from, n));
-    let mut found = 0u8;
-    let mut u = 0;
-    while u < TRANSACTIONS {
-        if contains(watched, u) {
-            if has_mark_in(marks, u, from, n, first, last) {
-                found = with(found, u);
-            }
-        }
-        u += 1;
-    }
-    found
+    those(|u| contains(watched, u) && has_mark_in(marks, u, from, n, first, last))
 }

@@ -6,18 +6,16 @@ ghost use Rattle.buffers.specs.Parts.{pasted, cut, chosen, file_part};
 use limits::FILE_BYTES;
 
 // Copies all of src over the octets of dst from `at` on.
+#[tactic(auto, unfolding(crate::specs::Parts::pasted))]
 pub fn copy_to(dst: &mut [u8], at: usize, src: &[u8])
     requires { at + length src.now ≤ length dst.old }
     ensures { dst.new ≡ pasted dst.old at src.now }
 {
-    let mut i = 0;
-    while i < src.len() {
-        dst[at + i] = src[i];
-        i += 1;
-    }
+    dst[at..at + src.len()].copy_from_slice(src);
 }
 
 // The n octets of the buffer from `at` on.
+#[tactic(auto, unfolding(crate::specs::Parts::cut))]
 pub fn part<'a>(buffer: &'a [u8], at: usize, n: usize) -> &'a [u8]
     requires { at + n ≤ length buffer.now }
     ensures { result.now ≡ cut buffer.now at n }
@@ -25,18 +23,18 @@ pub fn part<'a>(buffer: &'a [u8], at: usize, n: usize) -> &'a [u8]
     &buffer[at..at + n]
 }
 
-// A run of n octets from `at` on, of the log or of the file, whichever supplies it.
+// A run of n octets from `at` on, of the log or of the file, whichever supplies it: two lent slices, as the scope
+// wants it.
+#[tactic(auto, unfolding(crate::specs::Parts::chosen))]
 pub fn run<'a>(log: &'a [u8], file: &'a [u8], logged: bool, at: usize, n: usize) -> &'a [u8]
     requires { at + n ≤ length (chosen logged log.now file.now) }
     ensures { result.now ≡ cut (chosen logged log.now file.now) at n }
 {
-    if logged {
-        return part(log, at, n);
-    }
-    part(file, at, n)
+    part(if logged { log } else { file }, at, n)
 }
 
 // File f of the store buffer, for reading.
+#[tactic(auto, using(crate::proofs::PartLaws::cut_range), unfolding(crate::specs::Parts::file_part))]
 pub fn file_part<'a>(files: &'a [u8], f: usize) -> &'a [u8]
     requires { (length files.now ≡ buffer_bytes) × (f < file_count) }
     ensures { result.now ≡ file_part files.now f }
@@ -47,6 +45,7 @@ pub fn file_part<'a>(files: &'a [u8], f: usize) -> &'a [u8]
 }
 
 // Lands src in file f of the store buffer, from place `at` of the file on.
+#[tactic(auto, using(crate::proofs::PartLaws::pasted_lent))]
 pub fn land(files: &mut [u8], f: usize, at: usize, src: &[u8])
     requires { (length files.old ≡ buffer_bytes)
         × ((f < file_count) × (at + length src.now ≤ file_bytes)) }

@@ -6,7 +6,9 @@
 mod readers;
 
 ghost use Rattle.spec.specs.Promises.{lent_mut, lent_shared};
-ghost use Rattle.std.specs.Prelude.{[]};
+ghost use Rattle.std.specs.Prelude.{[], ◌≡◌, ◌+◌};
+ghost use Rattle.limits.specs.Limits.{buffer_bytes, file_bytes};
+ghost use Rattle.buffers.specs.Parts.{cut};
 ghost use Rattle.spec.specs.Messages.{Call, Op};
 ghost use Rattle.spec.specs.Calls.{call, fresh as fresh_rule};
 ghost use Rattle.c_codes.specs.Codes.{AnswersAsCode, Orders};
@@ -28,6 +30,31 @@ const UNDO_AT: usize = MARKS_AT + BUFFER_BYTES;
 
 // Files, logs, marks and undo log as they lie in a store's block.
 pub type Buffers = [u8; UNDO_AT + FILE_BYTES];
+
+// The four buffers of a store's block.
+#[derive(Clone, Copy)]
+struct Block<'a> {
+    files: &'a [u8],
+    logs: &'a [u8],
+    marks: &'a [u8],
+    undo: &'a [u8],
+}
+
+impl<'a> Block<'a> {
+    fn of(buffers: &'a Buffers) -> Block<'a>
+        ensures { (result.files.now ≡ cut buffers.now 0 buffer_bytes)
+            × (result.logs.now ≡ cut buffers.now buffer_bytes buffer_bytes)
+            × (result.marks.now ≡ cut buffers.now (buffer_bytes + buffer_bytes) buffer_bytes)
+            × (result.undo.now ≡ cut buffers.now (buffer_bytes + buffer_bytes + buffer_bytes) file_bytes) }
+    {
+        Block {
+            files: part(buffers, 0, BUFFER_BYTES),
+            logs: part(buffers, LOGS_AT, BUFFER_BYTES),
+            marks: part(buffers, MARKS_AT, BUFFER_BYTES),
+            undo: part(buffers, UNDO_AT, FILE_BYTES),
+        }
+    }
+}
 
 // Fresh.
 #[unsafe(no_mangle)]
@@ -71,10 +98,12 @@ pub extern "C" fn luzhanem_parts_seek(
 ) -> i32
     ensures { AnswersInBlock (call (Call.on t (Op.seek d v))) (lent_mut state.old state.new) (lent_shared buffers.now) result }
 {
-    let files = part(buffers, 0, BUFFER_BYTES);
-    let logs = part(buffers, LOGS_AT, BUFFER_BYTES);
-    let marks = part(buffers, MARKS_AT, BUFFER_BYTES);
-    let undo = part(buffers, UNDO_AT, FILE_BYTES);
+    let Block {
+        files,
+        logs,
+        marks,
+        undo,
+    } = Block::of(buffers);
     code(store::seek(state, files, logs, marks, undo, t, d, v))
 }
 
@@ -106,10 +135,12 @@ pub extern "C" fn luzhanem_parts_get_file_pointer(
 ) -> i32
     ensures { AnswersInBlock (call (Call.on t (Op.get_file_pointer d))) (lent_mut state.old state.new) (lent_shared buffers.now) result }
 {
-    let files = part(buffers, 0, BUFFER_BYTES);
-    let logs = part(buffers, LOGS_AT, BUFFER_BYTES);
-    let marks = part(buffers, MARKS_AT, BUFFER_BYTES);
-    let undo = part(buffers, UNDO_AT, FILE_BYTES);
+    let Block {
+        files,
+        logs,
+        marks,
+        undo,
+    } = Block::of(buffers);
     code(store::get_file_pointer(state, files, logs, marks, undo, t, d))
 }
 
@@ -230,11 +261,9 @@ pub extern "C" fn luzhanem_parts_best_order<'a>(
     ensures { Orders (call (Call.best_order list.now minute budget))
         (lent_shared state.now) (lent_shared files.now) (lent_shared logs.now) (lent_shared marks.now) (lent_shared undo.now) result order.new numbers.new }
 {
-    let b = best_order(state, files, logs, marks, undo, list, minute, budget);
-    let o = b.outcome;
-    let found = b.order;
+    let best = best_order(state, files, logs, marks, undo, list, minute, budget);
+    let found = best.order;
     *order = found;
-    let pair = [gap_in(o), tried_of(o)];
-    *numbers = pair;
-    code(o)
+    *numbers = [gap_in(best.outcome), tried_of(best.outcome)];
+    code(best.outcome)
 }

@@ -1,14 +1,16 @@
 -- The rules of the calls on images, after each of their tests.
+use Rattle.std.specs.declared.result.Result.TheVariants.{Ok, Err}
 use mathlib.Core.{Bool.{Bool, true, false, cond}, List.{List, []}, Path.{◌≡◌, refl, sym, ap, ap₂, ◌∙◌}}
 use borrow.Author.Tests.{eq-eqb, ne_eqb}
 use lib.ListN.{length, replicate}
 use native.Mathlib.Omega.{arith}
 use Prim.Native.Nat.{ℕ, ◌<◌}
 use Rattle.limits.specs.Limits.{buffer_bytes}
-use Rattle.state.specs.declared.{StoreMeaning.StoreMeaning, outcomes.{Refusal.Refusal, Outcome.Outcome}}
-use Rattle.state.specs.{declared.outcomes.Outcome.TheVariants.{Done, Refused}, Layout.{store_of, journal_of}}
+use Rattle.state.specs.declared.{StoreMeaning.StoreMeaning, outcomes.Refusal.Refusal}
+use Rattle.state.specs.Outcomes.{Outcome}
+use Rattle.state.specs.{declared.outcomes.Answer.TheVariants.{Done}, Layout.{store_of, journal_of}}
 use Rattle.state.specs.Outcomes.{number, done_answer, said}
-use Rattle.admission.specs.{declared.Gate.{Gate, TheVariants.{Pass, Refused as GateRefused}}, FirstRefusal.unless}
+use Rattle.admission.specs.{Admission.Gate, FirstRefusal.unless}
 use Rattle.admission.{specs.Admission.{store_in, gate_number}, proofs.Laws.{number-suc, unless-zero}}
 use Rattle.spec.specs.{Machine.{Machine, lent}, Calls.{Turn, answer_with, passing}, Promises.{Meets, machine_of, LeftAsFound}}
 use Rattle.refinement.proofs.TurnLaws.{gate-number, gate-zero, passing-number, passing-on, turned-follows, done-follows}
@@ -36,11 +38,11 @@ both-passed a b n ea eb = unfold unless in rw (ea, eb)
 
 -- A gate that says whether the record is in range.
 module _ (g : Gate) (s : StoreMeaning) (journal : List ℕ) (says : gate_number g ≡ unless (store_in s journal) 2 0) where
-  pub out_of_range : (r : Refusal) → g ≡ GateRefused r → store_in s journal ≡ false
+  pub out_of_range : (r : Refusal) → g ≡ Err r → store_in s journal ≡ false
   out_of_range r e = let n = number-suc r in let q = n.1 in
       refused-by (store_in s journal) (number r) (omega arith) (gate-number g _ says r e)
 
-  pub loaded-in-range : g ≡ Pass → store_in s journal ≡ true
+  pub loaded-in-range : g ≡ Ok tt → store_in s journal ≡ true
   loaded-in-range e = (unless-zero (store_in s journal) 2 0 (omega arith) (gate-zero g _ says e)).0
 
 -- A rule that goes on where its refusal is 0.
@@ -49,12 +51,12 @@ module _ (state files logs marks undo : List ℕ) (n : ℕ) (next : Turn) where
   from = machine_of state files logs marks undo
 
   pub refusing : (r : Refusal) → number r ≡ n
-      → Meets (passing n [] from next) (Refused r) from [] × LeftAsFound (Refused r) state state
+      → Meets (passing n [] from next) (Err r) from [] × LeftAsFound (Err r) state state
   refusing r e = turned-follows r [] state files logs marks undo (passing n [] from next)
       (ap (λ (k : ℕ). passing k [] from next) (sym e) ∙ passing-number r [] from next)
 
   pub granting-answer : (m : Machine) (after : List ℕ) → n ≡ 0 → next ≡ answer_with done_answer m
-      → Meets (passing n [] from next) Done m [] × LeftAsFound Done state after
+      → Meets (passing n [] from next) (Ok Done) m [] × LeftAsFound (Ok Done) state after
   granting-answer m after e is = unfold answer_with said in let q = passing-on n [] from next e ∙ is in (
     record {
       outcome = sym (ap (λ (w : Turn). w.reply.answer) q);
@@ -69,10 +71,10 @@ module _ (state files logs marks undo : List ℕ) (g : Gate)
   abbrev checked : Outcome → Type 0
   checked o = let m = machine_of state files logs marks undo in Meets (check_rule m) o m [] × LeftAsFound o state state
 
-  pub check-refused : (r : Refusal) → g ≡ GateRefused r → checked (Refused r)
+  pub check-refused : (r : Refusal) → g ≡ Err r → checked (Err r)
   check-refused r e = unfold check_rule in refusing state files logs marks undo _ _ r (gate-number g _ says r e)
 
-  pub check-passed : g ≡ Pass → checked Done
+  pub check-passed : g ≡ Ok tt → checked (Ok Done)
   unfolding check_rule
   check-passed e = granting-answer state files logs marks undo _ _ (machine_of state files logs marks undo) state
       (gate-zero g _ says e) refl
@@ -95,8 +97,8 @@ module _ (w : ℕ → ℕ) where
 
 pub load-follows : (numbers bytes old state files logs marks undo young files' marks' undo' : List ℕ) → load_refusal
     (word_at numbers) ≡ 0 → Young (word_at numbers) young → length marks ≡ buffer_bytes → files' ≡ bytes → marks' ≡ replicate
-    (length marks) 0 → undo' ≡ old → Meets (load_rule numbers bytes old (machine_of state files logs marks undo)) Done
-    (machine_of young files' logs marks' undo') [] × LeftAsFound Done state young
+    (length marks) 0 → undo' ≡ old → Meets (load_rule numbers bytes old (machine_of state files logs marks undo)) (Ok Done)
+    (machine_of young files' logs marks' undo') [] × LeftAsFound (Ok Done) state young
 load-follows numbers bytes old state files logs marks undo young files' marks' undo' passes y l is-files is-marks is-undo =
     unfold load_rule young_with in let m = is-marks ∙ ap (λ (n : ℕ). replicate n 0) l in
     let same : machine_of young files' logs marks' undo' ≡ young_with (word_at numbers) bytes old logs =

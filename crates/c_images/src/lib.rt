@@ -45,8 +45,7 @@ pub extern "C" fn luzhanem_parts_save(
     ensures { AnswersAsCode check_rule (lent_shared state.now) (lent_shared files.now) (lent_shared logs.now) (lent_shared marks.now) (lent_shared undo.now) result []
         × SavedImage (machine_of state.now files.now logs.now marks.now undo.now) (lent_mut numbers.old numbers.new) (lent_mut bytes.old bytes.new) (lent_mut old.old old.new) }
 {
-    let o = saving::save_image(state, files, logs, marks, undo, numbers, bytes, old);
-    code(o)
+    code(saving::save_image(state, files, logs, marks, undo, numbers, bytes, old))
 }
 
 // Makes the store the young one of the image.
@@ -65,8 +64,7 @@ pub extern "C" fn luzhanem_parts_load(
         (load_rule numbers.now bytes.now old.now)
         (lent_mut state.old state.new) (lent_mut files.old files.new) (lent_shared logs.now) (lent_mut marks.old marks.new) (lent_mut undo.old undo.new) result [] }
 {
-    let o = loading::load_image(state, files, logs, marks, undo, numbers, bytes, old);
-    code(o)
+    code(loading::load_image(state, files, logs, marks, undo, numbers, bytes, old))
 }
 
 // The number of the state's layout. A copy of the raw parts fits one layout only.

@@ -10,8 +10,8 @@ ghost use Rattle.state.specs.Outcomes.{done_answer, pointer, given, pairs, order
 ghost use Rattle.c_lines.specs.Lines.{PutsAnswer, said_by, spelled_line};
 
 use crate::Text;
-use limits::{FILE_BYTES, smaller, wide};
-use state::outcomes::Outcome;
+use limits::FILE_BYTES;
+use state::outcomes::{Answer, Outcome};
 use text_answers::{put_answer, put_ok};
 use text_numerals::{put_byte, put_list, put_number, put_spaced};
 
@@ -33,7 +33,7 @@ fn put_refusal(out: &mut [u8], r: u16) -> usize
     ensures { PutsAnswer (refused (65536 - r)) [] (lent_mut out.old out.new) result }
 {
     let next = put_head(out);
-    let next = put_number(out, next, 65536 - wide(r));
+    let next = put_number(out, next, 65536 - usize::from(r));
     put_byte(out, next, b'\n')
 }
 
@@ -49,6 +49,7 @@ fn put_said(out: &mut [u8], o: Outcome, buffer: &[u8]) -> usize
 }
 
 // ok
+#[tactic(auto, unfolding(crate::specs::Lines::said_by, crate::specs::Lines::spelled_line, crate::specs::Lines::answer_line, text_log::specs::Answers::answer_text, text_answers::specs::Printed::spelled, state::specs::Outcomes::said))]
 #[unsafe(no_mangle)]
 pub extern "C" fn luzhanem_parts_line_done(out: &mut Text, r: u16) -> usize
     ensures { PutsAnswer (said_by (λ _. done_answer) r) [] (lent_mut out.old out.new) result }
@@ -56,10 +57,11 @@ pub extern "C" fn luzhanem_parts_line_done(out: &mut Text, r: u16) -> usize
     if RESULTS <= r {
         return put_refusal(out, r);
     }
-    put_said(out, Outcome::Done, b"")
+    put_said(out, Ok(Answer::Done), b"")
 }
 
 // ok, and an offset or the octet of those made stale.
+#[tactic(auto, unfolding(crate::specs::Lines::said_by, crate::specs::Lines::spelled_line, crate::specs::Lines::answer_line, text_log::specs::Answers::answer_text, text_answers::specs::Printed::spelled, state::specs::Outcomes::said))]
 #[unsafe(no_mangle)]
 pub extern "C" fn luzhanem_parts_line_number(out: &mut Text, r: u16) -> usize
     ensures { PutsAnswer (said_by pointer r) [] (lent_mut out.old out.new) result }
@@ -67,7 +69,7 @@ pub extern "C" fn luzhanem_parts_line_number(out: &mut Text, r: u16) -> usize
     if RESULTS <= r {
         return put_refusal(out, r);
     }
-    put_said(out, Outcome::Offset(r), b"")
+    put_said(out, Ok(Answer::Offset(r)), b"")
 }
 
 // ok, and the bytes of a Read, at the front of its buffer.
@@ -78,8 +80,11 @@ pub extern "C" fn luzhanem_parts_line_given(out: &mut Text, r: u16, bytes: &[u8]
     if RESULTS <= r {
         return put_refusal(out, r);
     }
-    let end = smaller(FILE_BYTES, bytes.len());
-    put_said(out, Outcome::Given(r), &bytes[..end])
+    put_said(
+        out,
+        Ok(Answer::Given(r)),
+        &bytes[..bytes.len().min(FILE_BYTES)],
+    )
 }
 
 // ok, and offset and length of each of r places.
@@ -88,7 +93,7 @@ fn put_places(out: &mut [u8], r: u16, bytes: &[u8]) -> usize
     ensures { PutsAnswer (pairs r) bytes.now (lent_mut out.old out.new) result }
 {
     let next = put_head(out);
-    let next = text_log::put_reply(out, next, Outcome::Pairs(r), bytes);
+    let next = text_log::put_reply(out, next, Ok(Answer::Pairs(r)), bytes);
     put_byte(out, next, b'\n')
 }
 
@@ -100,8 +105,7 @@ pub extern "C" fn luzhanem_parts_line_pairs(out: &mut Text, r: u16, bytes: &[u8]
     if RESULTS <= r {
         return put_refusal(out, r);
     }
-    let end = smaller(256, bytes.len());
-    put_places(out, r, &bytes[..end])
+    put_places(out, r, &bytes[..bytes.len().min(256)])
 }
 
 // ok, three numbers, and the order.
@@ -111,9 +115,9 @@ fn put_best(out: &mut [u8], at: usize, grants: u16, gap: u16, tried: u16, order:
         (ok ++ spaced_texts (grants ∷ gap ∷ tried ∷ order.now)) out.new result }
 {
     let next = put_ok(out, at);
-    let next = put_spaced(out, next, wide(grants));
-    let next = put_spaced(out, next, wide(gap));
-    let next = put_spaced(out, next, wide(tried));
+    let next = put_spaced(out, next, usize::from(grants));
+    let next = put_spaced(out, next, usize::from(gap));
+    let next = put_spaced(out, next, usize::from(tried));
     put_list(out, next, order)
 }
 
@@ -141,6 +145,5 @@ pub extern "C" fn luzhanem_parts_line_ordered(
     if RESULTS <= r {
         return put_refusal(out, r);
     }
-    let end = smaller(8, order.len());
-    put_found(out, r, gap, tried, &order[..end])
+    put_found(out, r, gap, tried, &order[..order.len().min(8)])
 }

@@ -1,6 +1,6 @@
 // Lines of a log of calls for programs in other languages, rendered into a buffer of the caller. Each
 // function answers how many bytes it put, the line's end with them.
-#![tactic(auto)]
+#![tactic(auto, unfolding(text_log::specs::Replay::event_line, text_log::specs::Replay::logged_part, text_log::specs::Replay::logged_op, text_log::specs::Recorded::recorded_line, text_log::specs::Recorded::request_line, requests::specs::Requests::call_of))]
 
 mod answers;
 

@@ -1,48 +1,13 @@
 -- What a line of a log comes to, by what was parsed of it. Assumes nothing.
 use mathlib.Core.{Bool.{Bool, true, false}, List.List, Path.{◌≡◌, refl, sym, ap, ◌∙◌}}
-use lib.{Dec.eqb, IntN.{ℤ, pos}}
+use lib.{IntN.{ℤ, pos}}
 use Prim.Native.Nat.{ℕ}
-use Rattle.state.specs.{declared.outcomes.Outcome.Outcome, Outcomes.{done_answer, said}}
+use Rattle.state.specs.{Outcomes.Outcome, Outcomes.{done_answer, said}}
 use Rattle.spec.specs.{Machine.Machine, Calls.{Turn, answer_with}, Promises.{Lent, handed, handed_back, LeftAsFound}}
 use Rattle.text_log.specs.{LogLines.call_in, Reading.{log_entry_of, Says}, declared.parsing.ParsedEntry.ParsedEntry}
-use Rattle.text_log.specs.declared.parsing.ParsedEntry.TheVariants.{Another, Comment, Expects, Version, Fresh, Asks, Order}
-use Rattle.requests.specs.declared.Request.{Request}
 use Rattle.text_replay.specs.Performing.{turn_of, Replies}
 use Rattle.c_codes.{specs.Codes.code_of, proofs.CodeLaws.answers}
 use Rattle.c_replay.specs.ReplayLine.{asks_nothing, AsksNothing, line_rule, ReplaysLine}
-
--- ---- whether a line asks for nothing
-
-module _ (entry : ParsedEntry) where
-  pub comment-asks : entry ≡ Comment → AsksNothing entry true
-  unfolding asks_nothing log_entry_of
-  comment-asks e bytes = rw e refl
-
-  pub expects-asks : entry ≡ Expects → AsksNothing entry true
-  unfolding asks_nothing log_entry_of
-  expects-asks e bytes = rw e refl
-
-  pub version-asks : (v : ℕ) → entry ≡ Version v → AsksNothing entry (eqb v 1)
-  unfolding asks_nothing log_entry_of
-  version-asks v e bytes = rw e refl
-
-  pub another-asks : entry ≡ Another → AsksNothing entry false
-  unfolding asks_nothing log_entry_of
-  another-asks e bytes = rw e refl
-
-  pub fresh-asks : (n : ℕ) → entry ≡ Fresh n → AsksNothing entry false
-  unfolding asks_nothing log_entry_of
-  fresh-asks n e bytes = rw e refl
-
-  pub call_asks : (q : Request) (n room : ℕ) → entry ≡ Asks q n room → AsksNothing entry false
-  unfolding asks_nothing log_entry_of
-  call_asks q n room e bytes = rw e refl
-
-  pub order-asks : (minute budget n : ℕ) → entry ≡ Order minute budget n → AsksNothing entry false
-  unfolding asks_nothing log_entry_of
-  order-asks minute budget n e bytes = rw e refl
-
--- ---- what comes of it
 
 module _ (line : List ℕ) (state files logs marks undo : Lent) (entry : ParsedEntry) (bytes : List ℕ) (b : Bool)
     (says : Says entry bytes (call_in line)) (asks : AsksNothing entry b) where

@@ -18,17 +18,17 @@ const WRITTEN: usize = 4097;
 const NUMBERS_READ: usize = 18;
 
 // Whether a line asks for nothing: a comment, an answer, the version of this format.
+#[tactic(auto, unfolding(crate::specs::ReplayLine::asks_nothing, text_log::specs::Reading::log_entry_of))]
 fn asks_nothing(said: ParsedEntry) -> bool
     ensures { AsksNothing said result }
 {
     match said {
-        ParsedEntry::Comment => true,
-        ParsedEntry::Expects => true,
+        ParsedEntry::Comment | ParsedEntry::Expects => true,
         ParsedEntry::Version(v) => v == VERSION,
-        ParsedEntry::Another => false,
-        ParsedEntry::Fresh(_) => false,
-        ParsedEntry::Asks(_, _, _) => false,
-        ParsedEntry::Order(_, _, _) => false,
+        ParsedEntry::Another
+        | ParsedEntry::Fresh(_)
+        | ParsedEntry::Asks(_, _, _)
+        | ParsedEntry::Order(_, _, _) => false,
     }
 }
 
@@ -52,6 +52,5 @@ pub extern "C" fn luzhanem_parts_replay_line(
     }
     let mut reader = [0u8; WRITTEN];
     let a = perform_line(state, files, logs, marks, undo, said, &bytes, &mut reader);
-    let o = a.outcome;
-    code(o)
+    code(a.outcome)
 }

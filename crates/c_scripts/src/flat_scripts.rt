@@ -15,13 +15,6 @@ pub const FLAT: usize = 521;
 
 pub type FlatScripts = [usize; FLAT];
 
-fn number_at(flat: &FlatScripts, i: usize) -> usize
-    requires { i < 521 }
-    ensures { result ≡ get_or flat.now i 0 }
-{
-    flat[i]
-}
-
 // Kinds 0 to 3: Seek, Write, GetFilePointer, Read. Any other is a Write of a part past every data buffer:
 // refused with 20.
 fn call_of(kind: usize, d: usize, at: usize, n: usize) -> ScriptCall
@@ -32,7 +25,7 @@ fn call_of(kind: usize, d: usize, at: usize, n: usize) -> ScriptCall
         1 => ScriptCall::Write(d, at, n),
         2 => ScriptCall::GetFilePointer(d),
         3 => ScriptCall::Read(d, n),
-        _ => ScriptCall::Write(d, 18446744073709551615, 1),
+        _ => ScriptCall::Write(d, usize::MAX, 1),
     }
 }
 
@@ -55,11 +48,9 @@ fn lines_of(flat: &FlatScripts) -> [ScriptLine; 128]
 {
     let first = line_at(flat, 0);
     let mut all = [first; LINES];
-    let mut j = 0;
-    while j < LINES {
+    for j in 0..LINES {
         let line = line_at(flat, j);
         all[j] = line;
-        j += 1;
     }
     all
 }
@@ -68,10 +59,8 @@ fn counts_of(flat: &FlatScripts) -> [usize; 8]
     ensures { result ≡ tabulate (λ k. get_or flat.now (512 + k) 0) 8 }
 {
     let mut all = [0usize; 8];
-    let mut k = 0;
-    while k < 8 {
-        all[k] = number_at(flat, 512 + k);
-        k += 1;
+    for k in 0..8 {
+        all[k] = flat[512 + k];
     }
     all
 }
@@ -82,21 +71,20 @@ pub fn scripts_of(flat: &FlatScripts) -> Scripts
 {
     let lines = lines_of(flat);
     let counts = counts_of(flat);
-    let count = number_at(flat, 520);
     Scripts {
         lines,
         counts,
-        count,
+        count: flat[520],
     }
 }
 
+#[tactic(auto, unfolding(crate::specs::FlatScripts::end_code, dispatcher::specs::Types::end_of_script))]
 fn end_of(ends: Ends, k: usize) -> u8
     requires { k < 8 }
     ensures { result ≡ end_code (end_at ends k) }
 {
     let e = ends[k];
-    let end = e.end;
-    match end {
+    match e.end {
         End::Unfinished => 255,
         End::Granted => 0,
         End::Failed(r) => r.number(),
@@ -108,10 +96,8 @@ pub fn ends_of(ends: Ends) -> [u8; 8]
     ensures { result ≡ tabulate (λ k. end_code (end_at ends k)) 8 }
 {
     let mut all = [0u8; 8];
-    let mut k = 0;
-    while k < 8 {
+    for k in 0..8 {
         all[k] = end_of(ends, k);
-        k += 1;
     }
     all
 }

@@ -1,4 +1,5 @@
 -- The rules of Commit after each of its tests: no minute of the day, stale, closed, past the end, granted.
+use Rattle.std.specs.declared.result.Result.TheVariants.{Ok, Err}
 use mathlib.Core.{Bool.{Bool, true, false, cond, ◌||◌, true≢false}, List.{List, [], ◌++◌}}
 use mathlib.Core.Path.{◌≡◌, refl, sym, ap, ap₂, ◌∙◌, subst}
 use lib.{Count.ones, Dec.eqb, ListN.{length, get_or, set, drop}, Seq.{drop-cons, get_or_at, get_or-set_same, get_or-set_other}}
@@ -11,7 +12,7 @@ use Rattle.buffers.specs.{Bits.{bits_of, count_of}, Parts.{pasted, tabulate}, Ma
 use Rattle.buffers.proofs.{SetLaws.{bits-lt, contains-bits, ones-bits, octets-same}, TableLaws.{length-tabulate, table_same}}
 use Rattle.counters.specs.declared.Used.{Used}
 use Rattle.state.specs.declared.{Undo.Undo, StoreMeaning.StoreMeaning, Transaction.Transaction}
-use Rattle.state.specs.declared.outcomes.{Refusal.TheVariants.Stale, Outcome.TheVariants.{Granted, Refused}}
+use Rattle.state.specs.declared.outcomes.{Refusal.TheVariants.Stale, Answer.TheVariants.{Granted}}
 use Rattle.state.specs.StoreMeaning.{transaction, no_transaction, window_at, ended, with_stale, with_offsets, with_lengths, with_undo}
 use Rattle.state.specs.{StoreMeaning.{with_transactions, with_transaction}, Layout.{transaction_of, store_of, journal_of, state_length}}
 use Rattle.state.specs.{Updates.{with_stale_at, reset_at}, Outcomes.{granted, refused, number, said}}
@@ -73,7 +74,7 @@ pub stale-follows : (state files logs marks undo after unmarked : List ℕ) (t :
       reply = record { answer = refused 13; buffer = [] };
       after = reset t ended (machine_of state files logs marks undo);
     } → after ≡ reset_at state t false → unmarked ≡ without_marks t marks
-    → Meets w (Refused Stale) (machine_of after files logs unmarked undo) [] × LeftAsFound (Refused Stale) state after
+    → Meets w (Err Stale) (machine_of after files logs unmarked undo) [] × LeftAsFound (Err Stale) state after
 stale-follows state files logs marks undo after unmarked t w long small e r u = unfold reset said ended in (
   rw (e, u) (record {
     outcome = refl;
@@ -246,8 +247,8 @@ module _ (state files logs marks undo : List ℕ) (t : ℕ) (x : Transaction) (c
 
     pub granted-follows : (landed : List ℕ) → landed ≡ land_files (bytes_set_in state logs t x.used.records) files
         → (old : List ℕ) → old ≡ pasted undo 0 (old_bytes_in state files logs t x.used.records) → (unmarked : List ℕ)
-        → unmarked ≡ without_marks t marks → Meets (grant_turn t m) (Granted octet) (machine_of after landed logs unmarked old)
-        [] × LeftAsFound (Granted octet) state after
+        → unmarked ≡ without_marks t marks → Meets (grant_turn t m) (Ok (Granted octet)) (machine_of after landed logs unmarked old)
+        [] × LeftAsFound (Ok (Granted octet)) state after
     granted-follows landed lands old olds unmarked ms = unfold commit_granted saving_undo said stale_by in
         let files-is : landed ≡ land_files ss files = lands ∙ ap (λ (y : Transaction). land_files (bytes_set_in state logs t
         y.used.records) files) (sym own_is) ∙ sym (files-are s (journal_of state) files logs t) in

@@ -6,7 +6,7 @@ use Rattle.buffers.specs.Marks.{contains}
 use Rattle.state.specs.declared.StoreMeaning.{StoreMeaning}
 use Rattle.state.specs.declared.Transaction.{Transaction}
 use Rattle.state.specs.StoreMeaning.{transaction, with_stale, with_transactions}
-use Rattle.state.specs.Layout.{transaction_of, store_of, journal_of, state_length}
+use Rattle.state.specs.Layout.{transaction_of, store_of, journal_of}
 use Rattle.admission.specs.Admission.{lengths_before}
 use Rattle.spec.specs.Machine.{Machine, txn_of}
 use Rattle.spec.specs.Calls.{Turn, commit_granted, settings_of}
@@ -15,7 +15,6 @@ use Rattle.commit_apply.specs.Apply.{places_fit, CanLandIn}
 -- The placing of transaction t, which is x, fits, its writes land inside the files, and its counter of bytes
 -- is theirs.
 pub record CanGrant (state files logs marks undo : List ℕ) (t : ℕ) (x : Transaction) : Type 0 where
-  pub numbers : length state ≡ state_length
   pub files_length : length files ≡ buffer_bytes
   pub logs_length : length logs ≡ buffer_bytes
   pub marks_length : length marks ≡ buffer_bytes

@@ -5,12 +5,12 @@ ghost use Rattle.spec.specs.Calls.{call};
 ghost use Rattle.spec.specs.Promises.{Follows, lent_mut, lent_shared};
 
 use crate::granting::grant;
-use admission::Gate;
+use admission::Sizes;
 use buffers::marks::unmark;
 use commit_apply::offsets::places_fit;
 use commit_windows::has_byte_for_closed;
 use state::layout::{State, is_begun, is_stale, reset};
-use state::outcomes::{Outcome, Refusal};
+use state::outcomes::{Answer, Outcome, Refusal};
 use windows::minute_in;
 
 // Commits transaction t at a minute of the day: refusals 1 to 4, then 22, 13, 21 and 12, then the grant. A
@@ -26,28 +26,25 @@ pub fn commit(
 ) -> Outcome
     ensures { Follows (call (Call.commit t minute)) (lent_mut state.old state.new) (lent_mut files.old files.new) (lent_shared logs.now) (lent_mut marks.old marks.new) (lent_mut undo.old undo.new) result [] }
 {
-    let gate = admission::admit(state, files.len(), logs.len(), marks.len(), undo.len(), t);
-    if let Gate::Refused(r) = gate {
-        return Outcome::Refused(r);
-    }
+    admission::admit(state, Sizes::of(files, logs, marks, undo), t)?;
     if !is_begun(state, t) {
-        return Outcome::Refused(Refusal::NotOpen);
+        return Err(Refusal::NotOpen);
     }
     if !minute_in(minute) {
-        return Outcome::Refused(Refusal::NoSuchMinute);
+        return Err(Refusal::NoSuchMinute);
     }
     if is_stale(state, t) {
         unmark(marks, t);
         reset(state, t, false);
-        return Outcome::Refused(Refusal::Stale);
+        return Err(Refusal::Stale);
     }
     if has_byte_for_closed(state, t, minute as u16) {
-        return Outcome::Refused(Refusal::FileClosed);
+        return Err(Refusal::FileClosed);
     }
     if !places_fit(state, t) {
-        return Outcome::Refused(Refusal::AppendPastEnd);
+        return Err(Refusal::AppendPastEnd);
     }
     // All of the logs, as a reference made anew: `logs` itself would be copied from memory.
     let octet = grant(state, files, &logs[0..], marks, undo, t);
-    Outcome::Granted(octet)
+    Ok(Answer::Granted(octet))
 }

@@ -1,7 +1,7 @@
 // A commit that is granted.
-ghost use Rattle.std.specs.Prelude.{[], ◌≡◌, length};
-ghost use Rattle.state.specs.Layout.{transaction_of, state_length};
-ghost use Rattle.state.specs.declared.outcomes.Outcome.TheVariants.{Granted};
+ghost use Rattle.std.specs.Prelude.{[]};
+ghost use Rattle.state.specs.Layout.{transaction_of};
+ghost use Rattle.state.specs.declared.outcomes.Answer.TheVariants.{Granted};
 ghost use Rattle.spec.specs.Promises.{Follows, lent_mut, lent_shared};
 ghost use Rattle.commit_apply.specs.Apply.{Becomes};
 ghost use Rattle.call_commit.specs.Grant.{CanGrant, grant_turn, with_stale_in};
@@ -18,15 +18,12 @@ use state::layout::{State, put_stale, reset, used_at};
 
 // Makes the transactions of the octet stale.
 fn put_stale_in(state: &mut State, octet: u8)
-    requires { length state.old ≡ state_length }
     ensures { Becomes (lent_mut state.old state.new) (with_stale_in octet) }
 {
-    let mut u = 0;
-    while u < TRANSACTIONS {
+    for u in 0..TRANSACTIONS {
         if contains(octet, u) {
             put_stale(state, u);
         }
-        u += 1;
     }
 }
 
@@ -44,7 +41,7 @@ pub fn grant(
 ) -> u8
     requires { CanGrant state.old files.old logs.now marks.old undo.old t
         (transaction_of state.old t) }
-    ensures { Follows (grant_turn t) (lent_mut state.old state.new) (lent_mut files.old files.new) (lent_shared logs.now) (lent_mut marks.old marks.new) (lent_mut undo.old undo.new) (Granted result) [] }
+    ensures { Follows (grant_turn t) (lent_mut state.old state.new) (lent_mut files.old files.new) (lent_shared logs.now) (lent_mut marks.old marks.new) (lent_mut undo.old undo.new) (Ok (Granted result)) [] }
 {
     let octet = stale_by(state, marks, t);
     let used = used_at(state, t);

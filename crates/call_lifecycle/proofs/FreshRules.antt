@@ -1,9 +1,10 @@
 -- The rule of Fresh after its tests.
+use Rattle.std.specs.declared.result.Result.TheVariants.{Ok}
 use mathlib.Core.{List.{List, []}, Logic.⊎_elim, Path.{◌≡◌, sym, ap, ◌∙◌}}
 use lib.ListN.{length, get_or, replicate, length-replicate, get_or-replicate, get_or-eq_default}
 use native.Mathlib.Omega.{arith}
 use Prim.Native.Nat.{ℕ, ◌<◌}
-use Rattle.state.specs.{Journal.journal_length, declared.outcomes.Outcome.TheVariants.Done}
+use Rattle.state.specs.{Journal.journal_length, declared.outcomes.Answer.TheVariants.{Done}}
 use Rattle.state.specs.{Layout.{store_of, journal_of, state_length}, Updates.with_file_numbers_at, Outcomes.{done_answer, said}}
 use Rattle.state.proofs.LayoutLaws.{store-of-zeros, filed, store-with-files, journal-with-files}
 use Rattle.limits.specs.Limits.{descriptor_count}
@@ -56,8 +57,8 @@ module _ (numbers : List ℕ) (sixteen : length numbers ≡ descriptor_count) wh
 pub fresh-follows : (numbers state files logs marks undo : List ℕ) → admission_of_fresh
     (sizes (machine_of state files logs marks undo)) numbers ≡ 0 → (one after bytes sightings : List ℕ) → one ≡ replicate
     state_length 0 → after ≡ with_file_numbers_at one (λ d. get_or numbers d 0) 16 → bytes ≡ replicate (length files) 0
-    → sightings ≡ replicate (length marks) 0 → Meets (fresh numbers (machine_of state files logs marks undo)) Done
-    (machine_of after bytes logs sightings undo) [] × LeftAsFound Done state after
+    → sightings ≡ replicate (length marks) 0 → Meets (fresh numbers (machine_of state files logs marks undo)) (Ok Done)
+    (machine_of after bytes logs sightings undo) [] × LeftAsFound (Ok Done) state after
 fresh-follows numbers state files logs marks undo passes one after bytes sightings is_one is-after is-bytes is-sightings =
     unfold fresh answer_with fresh_machine said in let m = machine_of state files logs marks undo in
     let e = passing-on _ [] m (answer_with done_answer (fresh_machine numbers logs undo)) passes in

@@ -4,10 +4,10 @@ ghost use Rattle.spec.specs.Messages.{Call};
 ghost use Rattle.spec.specs.Calls.{call};
 ghost use Rattle.spec.specs.Promises.{Follows, lent_mut, lent_shared};
 
-use admission::Gate;
-use buffers::marks as bits;
+use admission::Sizes;
+use buffers::marks::unmark;
 use state::layout::{State, is_begun, reset};
-use state::outcomes::{Outcome, Refusal};
+use state::outcomes::{Answer, Outcome, Refusal};
 
 // Ends transaction t and drops its log and marks; the log bytes stay (R-10.1).
 pub fn abort(
@@ -20,14 +20,11 @@ pub fn abort(
 ) -> Outcome
     ensures { Follows (call (Call.abort t)) (lent_mut state.old state.new) (lent_shared files.now) (lent_shared logs.now) (lent_mut marks.old marks.new) (lent_shared undo.now) result [] }
 {
-    let gate = admission::admit(state, files.len(), logs.len(), marks.len(), undo.len(), t);
-    if let Gate::Refused(r) = gate {
-        return Outcome::Refused(r);
-    }
+    admission::admit(state, Sizes::of(files, logs, marks, undo), t)?;
     if !is_begun(state, t) {
-        return Outcome::Refused(Refusal::NotOpen);
+        return Err(Refusal::NotOpen);
     }
-    bits::unmark(marks, t);
+    unmark(marks, t);
     reset(state, t, false);
-    Outcome::Done
+    Ok(Answer::Done)
 }

@@ -2,17 +2,14 @@
 ghost use Rattle.spec.specs.Recovery.{EndsAll};
 
 use state::TRANSACTIONS;
-use state::layout::{State, length_of, reset};
+use state::layout::{State, reset};
 
 // Ends every transaction as Abort does, on the state alone: for a copy that is saved while transactions are
 // open. Files, offsets, lengths, windows and the last grant stay.
 pub fn end_all(state: &mut State)
     ensures { EndsAll state.old state.new }
 {
-    length_of(state);
-    let mut t = 0;
-    while t < TRANSACTIONS {
+    for t in 0..TRANSACTIONS {
         reset(state, t, false);
-        t += 1;
     }
 }

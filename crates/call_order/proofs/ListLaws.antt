@@ -1,31 +1,21 @@
--- Loops over a list: what is left to test, to count or to pass is the rest of it.
-use mathlib.Core.{Bool.{Bool, true, false, cond, not, ◌&&◌, ◌||◌}, List.{List, [], ◌∷◌}, Path.{◌≡◌, refl, ap, ◌∙◌}}
+-- Lists of transactions: their members, and tests and counts of them, also in the words of std.
+use mathlib.Core.{Bool.{Bool, true, false, cond, not, ◌&&◌, ◌||◌}, List.{List, [], ◌∷◌, ◌++◌}, Path.{◌≡◌, refl, sym, ap, ap₂, subst, ◌∙◌}}
 use borrow.Author.Tests.{leb-true}
 use lib.{Dec.{leb, eqb}, ListN.{length, get_or, drop, drop_of_length-le}, Seq.drop-cons}
 use native.Mathlib.{Numerals.add-one, Omega.arith}
 use Prim.Native.Nat.{ℕ, zero, suc, ◌+◌, ◌≤◌, ◌<◌}
 use Rattle.limits.specs.Limits.{last_transaction, transaction_count}
-use Rattle.admission.proofs.Laws.{and_left, and_right, and_both}
+use Rattle.admission.proofs.Laws.{and_left, and_right, and_both, some-none, some_more, some-found}
+use Rattle.buffers.proofs.BelowLaws.{none_yet, one_more}
 use Rattle.spec_orders.specs.Orders.{all_in, count_in, is_in, distinct}
+use Rattle.admission.specs.FirstRefusal.{some_below}
+use Rattle.spec.proofs.Abstract.Lists.{eqb-sym}
+use Rattle.std.specs.List.{range_with_len}
+use Rattle.std.proofs.lemmas.List.Folds.{list_any-append}
+use Rattle.std.{specs.List.{list_all, list_any, count_by}, proofs.{lemmas.List.Recursion.is_count_by, iter.runs.Made.zero_default}}
 
 pub rest : (ts : List ℕ) (k : ℕ) → k < length ts → drop k ts ≡ get_or ts k 0 ∷ drop (k + 1) ts
 rest ts k l = rw (add-one k) (drop-cons ts k 0 l)
-
-module _ (p : ℕ → Bool) (ts : List ℕ) where
-  abbrev pub AllLeft : ℕ → Type 0
-  AllLeft k = all_in p ts ≡ all_in p (drop k ts)
-
-  all_rest : (k : ℕ) → k < length ts → all_in p (drop k ts) ≡ p (get_or ts k 0) && all_in p (drop (k + 1) ts)
-  all_rest k l = unfold all_in in ap (all_in p) (rest ts k l)
-
-  pub all-fails : (k : ℕ) → k < length ts → AllLeft k → p (get_or ts k 0) ≡ false → all_in p ts ≡ false
-  all-fails k l e f = e ∙ all_rest k l ∙ ap (λ (b : Bool). b && all_in p (drop (k + 1) ts)) f
-
-  pub all_more : (k : ℕ) → k < length ts → AllLeft k → p (get_or ts k 0) ≡ true → AllLeft (k + 1)
-  all_more k l e f = e ∙ all_rest k l ∙ ap (λ (b : Bool). b && all_in p (drop (k + 1) ts)) f
-
-  pub all_done : (k : ℕ) → length ts ≤ k → AllLeft k → all_in p ts ≡ true
-  all_done k l e = unfold all_in in e ∙ ap (all_in p) (drop_of_length-le ts l)
 
 pub all-at : (p : ℕ → Bool) (ts : List ℕ) (k : ℕ) → all_in p ts ≡ true → k < length ts → p (get_or ts k 0) ≡ true
 unfolding all_in
@@ -38,25 +28,16 @@ pub small_at : (ts : List ℕ) (k : ℕ) → all_in (λ t. leb t last_transactio
     → get_or ts k 0 < transaction_count
 small_at ts k e l = let h = leb-true (get_or ts k 0) last_transaction (all-at (λ t. leb t last_transaction) ts k e l) in omega arith
 
+-- The same of an iterator's list, at any default.
+pub small-each : (ts us : List ℕ) → us ≡ ts → all_in (λ t. leb t last_transaction) ts ≡ true
+    → (k d : ℕ) → k < length us → get_or us k d < transaction_count
+small-each ts us same e k d l = rw (zero_default us k d l) (small_at us k (subst (λ (vs : List ℕ). all_in (λ t. leb t
+    last_transaction) vs ≡ true) (sym same) e) l)
+
 pub all-by : (p : ℕ → Bool) (ts : List ℕ) → ((k : ℕ) → k < length ts → p (get_or ts k 0) ≡ true) → all_in p ts ≡ true
 unfolding all_in
 all-by p [] h = refl
 all-by p (t ∷ ts) h = and_both (p t) _ (h 0 (omega arith)) (all-by p ts (λ k l. h (suc k) (omega arith)))
-
--- ---- a number that occurs
-
-module _ (t : ℕ) (ts : List ℕ) where
-  in-rest-of : (k : ℕ) → k < length ts → is_in t (drop k ts) ≡ eqb t (get_or ts k 0) || is_in t (drop (k + 1) ts)
-  in-rest-of k l = unfold is_in in ap (is_in t) (rest ts k l)
-
-  pub in-found : (k : ℕ) → k < length ts → eqb t (get_or ts k 0) ≡ true → is_in t (drop k ts) ≡ true
-  in-found k l f = in-rest-of k l ∙ ap (λ (b : Bool). b || is_in t (drop (k + 1) ts)) f
-
-  pub in-passed : (k : ℕ) → k < length ts → eqb t (get_or ts k 0) ≡ false → is_in t (drop k ts) ≡ is_in t (drop (k + 1) ts)
-  in-passed k l f = in-rest-of k l ∙ ap (λ (b : Bool). b || is_in t (drop (k + 1) ts)) f
-
-  pub in-empty : (k : ℕ) → length ts ≤ k → is_in t (drop k ts) ≡ false
-  in-empty k l = unfold is_in in ap (is_in t) (drop_of_length-le ts l)
 
 -- ---- a list without a repeat
 
@@ -79,22 +60,47 @@ module _ (ts : List ℕ) where
   pub distinct-done : (k : ℕ) → length ts ≤ k → DistinctLeft k → distinct ts ≡ true
   distinct-done k l e = unfold distinct in e ∙ ap distinct (drop_of_length-le ts l)
 
--- ---- counting
+-- ---- in std's words
 
-module _ (p : ℕ → Bool) (ts : List ℕ) where
-  abbrev pub CountLeft : ℕ → ℕ → Type 0
-  CountLeft n k = n + count_in p (drop k ts) ≡ count_in p ts
+pub all-std : (p : ℕ → Bool) (ts : List ℕ) → all_in p ts ≡ list_all p ts
+unfolding all_in
+all-std p [] = refl
+all-std p (t ∷ ts) = ap (λ (b : Bool). p t && b) (all-std p ts)
 
-  count-rest : (k : ℕ) → k < length ts → count_in p (drop k ts) ≡ cond (p (get_or ts k 0)) 1 0 + count_in p (drop (k + 1) ts)
-  count-rest k l = unfold count_in in ap (count_in p) (rest ts k l)
+pub in-std : (t : ℕ) (ts : List ℕ) → is_in t ts ≡ list_any (λ u. eqb u t) ts
+unfolding is_in
+in-std t [] = refl
+in-std t (u ∷ ts) = ap₂ ◌||◌ (eqb-sym t u) (in-std t ts)
 
-  pub count-one : (n k : ℕ) → k < length ts → CountLeft n k → p (get_or ts k 0) ≡ true → CountLeft (n + 1) (k + 1)
-  count-one n k l e f = let a = count-rest k l ∙ ap (λ (b : Bool). cond b 1 0 + count_in p (drop (k + 1) ts)) f in
-      omega arith
+pub count-std : (p : ℕ → Bool) (ts : List ℕ) → count_in p ts ≡ count_by p ts
+unfolding count_in
+count-std p ts = is_count_by (count_in p) p refl (λ t us. pick (p t) (count_in p us)) ts
+  where
+    pick : (b : Bool) (n : ℕ) → cond b 1 0 + n ≡ cond b (1 + n) n
+    pick true n = refl
+    pick false n = omega arith
 
-  pub count_none : (n k : ℕ) → k < length ts → CountLeft n k → p (get_or ts k 0) ≡ false → CountLeft n (k + 1)
-  count_none n k l e f = let a = count-rest k l ∙ ap (λ (b : Bool). cond b 1 0 + count_in p (drop (k + 1) ts)) f in
-      omega arith
+range_more : (a n : ℕ) → range_with_len a (suc n) ≡ range_with_len a n ++ ((a + n) ∷ [])
+range_more a zero = let e : a ≡ a + 0 = omega arith in ap (λ (k : ℕ). k ∷ []) e
+range_more a (suc n) = let e : a + 1 + n ≡ a + suc n = omega arith in
+    ap (λ (ks : List ℕ). a ∷ ks) (range_more (a + 1) n ∙ ap (λ (k : ℕ). range_with_len (a + 1) n ++ (k ∷ [])) e)
 
-  pub count-done : (n k : ℕ) → length ts ≤ k → CountLeft n k → n ≡ count_in p ts
-  count-done n k l e = unfold count_in in let a = ap (count_in p) (drop_of_length-le ts l) in omega arith
+alone : (b : Bool) → b || false ≡ b
+alone true = refl
+alone false = refl
+
+pub some-std : (p : ℕ → Bool) (n : ℕ) → some_below p n ≡ list_any p (range_with_len 0 n)
+unfolding some_below
+some-std p zero = refl
+some-std p (suc n) = let e : 0 + n ≡ n = omega arith in sym (ap (list_any p) (range_more 0 n)
+    ∙ list_any-append p (range_with_len 0 n) ((0 + n) ∷ [])
+    ∙ ap₂ ◌||◌ (sym (some-std p n)) (alone (p (0 + n)) ∙ ap p e))
+
+-- ---- sets of laws that contracts are proved by
+
+-- A loop that stops at the first hit, and one that goes over all.
+pub ruleset searches = (some-none, some_more, some-found)
+
+pub ruleset tests = (none_yet, one_more)
+
+pub ruleset repeats = (distinct-fails, distinct_more, distinct-done)

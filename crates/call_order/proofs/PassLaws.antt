@@ -6,7 +6,7 @@ use Prim.Native.Nat.{ℕ, ◌+◌, ◌≤◌, ◌<◌}
 use Rattle.buffers.specs.Marks.{contains}
 use Rattle.spec.specs.Transactions.{Txn}
 use Rattle.call_order.specs.OrderStatements.{Pass, fits_at, offsets_after, follow_one, follow_all, Short, pass_one, pass_all}
-use Rattle.call_order.proofs.ListLaws.{rest}
+use Rattle.call_order.proofs.ListLaws.{rest, small_at}
 
 abbrev pub short : ℕ → ℕ → Short
 short s g = record { skipped = s; grants = g }
@@ -61,3 +61,8 @@ module _ (row : ℕ → ℕ) (closed : ℕ → Bool) (txn : ℕ → Txn) where
 pub one-octet : (row : ℕ → ℕ) (closed : ℕ → Bool) (txn : ℕ → Txn) (t : ℕ) (p : Pass)
     → follow_one (λ u. row t) closed txn t p ≡ follow_one row closed txn t p
 one-octet row closed txn t p = unfold follow_one in refl
+
+-- The sets that the passes are proved by.
+pub ruleset passing = (small_at, pass-granted, pass-skipped, pass-done)
+
+pub ruleset following = (small_at, few-grants, follow-rest, follow-done, one-octet)

@@ -1,9 +1,9 @@
 -- Request F-14: where a caller of `best_order` finds the order that it was answered, and what holds of it.
+use Rattle.std.specs.declared.result.Result.TheVariants.{Ok, Err}
 use Rattle.std.specs.Prelude.{List, [], ◌++◌, ◌≡◌, length, take, replicate, ℕ, ◌-◌}
 use Rattle.limits.specs.Limits.{transaction_count}
-use Rattle.state.specs.declared.outcomes.Outcome.{Outcome}
-use Rattle.state.specs.declared.outcomes.Outcome.TheVariants.{Done, Offset, Given, Granted, Pairs, Ordered}
-use Rattle.state.specs.declared.outcomes.Outcome.TheVariants.{Refused}
+use Rattle.state.specs.Outcomes.{Outcome}
+use Rattle.state.specs.declared.outcomes.Answer.TheVariants.{Done, Offset, Given, Granted, Pairs, Ordered}
 use Rattle.spec.specs.Promises.{machine_of}
 use Rattle.spec.specs.BestOrder.{BestOrderHolds}
 use Rattle.call_order.specs.declared.order_call.Best.{Best}
@@ -11,13 +11,13 @@ use Rattle.call_order.specs.declared.order_call.Best.{Best}
 -- "answer an order (as transaction numbers)" [R-14.1]: for a list of n the first n numbers of the array; none
 -- with a refusal.
 unfoldable pub order_part : Outcome → ℕ → List ℕ → List ℕ
-order_part Done n order = []
-order_part (Offset o) n order = []
-order_part (Given k) n order = []
-order_part (Granted k) n order = []
-order_part (Pairs k) n order = []
-order_part (Ordered grants gap tried) n order = take n order
-order_part (Refused r) n order = []
+order_part (Ok Done) n order = []
+order_part (Ok (Offset o)) n order = []
+order_part (Ok (Given k)) n order = []
+order_part (Ok (Granted k)) n order = []
+order_part (Ok (Pairs k)) n order = []
+order_part (Ok (Ordered grants gap tried)) n order = take n order
+order_part (Err r) n order = []
 
 abbrev pub order_in : ℕ → Best → List ℕ
 order_in n r = order_part r.outcome n r.order

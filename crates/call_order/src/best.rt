@@ -1,15 +1,12 @@
 // The earliest of the orders tried with the most grants, and the gap.
-ghost use Rattle.std.specs.Prelude.{true, not, cond, ◌≡◌, ◌-◌, ◌≤◌, leb, length, take};
-ghost use Rattle.limits.specs.Limits.{transaction_count, last_transaction};
+ghost use Rattle.std.specs.Prelude.{not, cond, ◌≡◌, ◌-◌, ◌≤◌, length};
 ghost use Rattle.buffers.specs.Marks.{contains as contained};
-ghost use Rattle.spec_orders.specs.Orders.{all_in, count_in, factorial};
-ghost use Rattle.call_order.specs.OrderTable.{grants_by_table, BestIn, ZerosAfter};
+ghost use Rattle.spec_orders.specs.Orders.{count_in, factorial};
+ghost use Rattle.call_order.specs.OrderTable.{grants_by_table, BestIn};
 
-use crate::follow::grants_following;
-use crate::pass::grants_passing;
-use crate::permutation::order_at;
+use crate::members::Members;
+use crate::permutation::{numbers_of, order_at};
 use buffers::transaction_sets::contains;
-use limits::wide_octet;
 use state::TRANSACTIONS;
 use state::layout::State;
 
@@ -29,76 +26,60 @@ pub struct BestFound {
     pub grants: u8,
 }
 
-// The grants of the order of n.
-fn grants_of(state: &State, known: OrderTable, order: [u8; TRANSACTIONS], n: usize) -> u8
-    requires { (n ≤ transaction_count) × (all_in (λ t. leb t last_transaction) (take n order) ≡ true) }
-    ensures { result ≡ grants_by_table state.now known (take n order) }
-{
-    let table = known.table;
-    if known.placed {
-        return grants_passing(table, known.closed, order, n);
-    }
-    grants_following(state, table, known.closed, order, n)
-}
-
-// The best of the first orders of the n numbers, as many as are to be tried.
-pub fn best_of(
-    state: &State,
-    known: OrderTable,
-    numbers: [u8; TRANSACTIONS],
-    n: usize,
-    tried: usize,
-) -> BestFound
-    requires { (n ≤ transaction_count) × (tried ≤ factorial n)
-        × (all_in (λ t. leb t last_transaction) (take n numbers) ≡ true)
-        × ZerosAfter n numbers }
-    ensures { BestIn (grants_by_table state.now known) tried (take n numbers) n result }
-{
-    let mut order = numbers;
-    let mut grants = grants_of(state, known, numbers, n);
-    let mut i = 0;
-    while i < tried {
-        let next = order_at(numbers, n, i);
-        let more = grants_of(state, known, next, n);
-        if grants < more {
-            order = next;
-            grants = more;
+impl OrderTable {
+    // The grants of the order.
+    #[tactic(auto, unfolding(crate::specs::OrderTable::grants_by_table))]
+    fn grants_of(&self, state: &State, order: Members) -> u8
+        ensures { result ≡ grants_by_table state.now self.now order.entry.numbers.now }
+    {
+        if self.placed {
+            self.grants_passing(order)
+        } else {
+            self.grants_following(state, order)
         }
-        i += 1;
     }
-    BestFound { order, grants }
+
+    // The best of the first orders of the list, as many as are to be tried.
+    pub fn best_of(&self, state: &State, list: Members, tried: usize) -> BestFound
+        requires { tried ≤ factorial (length list.numbers.now) }
+        ensures { BestIn (grants_by_table state.now self.now) tried list.entry.numbers.now
+            (length list.entry.numbers.now) result }
+    {
+        let order = numbers_of(list);
+        let grants = self.grants_of(state, list);
+        let mut best = BestFound { order, grants };
+        for i in 0..tried {
+            let order = order_at(list, i);
+            let arranged = Members {
+                numbers: &order[..list.numbers.len()],
+            };
+            let grants = self.grants_of(state, arranged);
+            if best.grants < grants {
+                best = BestFound { order, grants };
+            }
+        }
+        best
+    }
+
+    // The gap: 0 when all orders were tried, otherwise the count of those without a byte for a closed file,
+    // less the grants (R-14.3).
+    pub fn gap_of(&self, all: bool, list: Members, grants: u8) -> u8
+        ensures { result ≡ cond all 0
+            (count_in (λ t. not (contained self.now.closed t)) list.entry.numbers.now - grants) }
+    {
+        if all {
+            return 0;
+        }
+        count_outside(self.closed, list).saturating_sub(grants)
+    }
 }
 
 // How many of the list are not in the octet.
-fn count_outside(octet: u8, list: &[u8]) -> u8
-    requires { (length list.now ≤ transaction_count)
-        × (all_in (λ t. leb t last_transaction) list.now ≡ true) }
-    ensures { result ≡ count_in (λ t. not (contained octet t)) list.now }
+fn count_outside(octet: u8, list: Members) -> u8
+    ensures { result ≡ count_in (λ t. not (contained octet t)) list.entry.numbers.now }
 {
-    let mut n = 0u8;
-    let mut k = 0;
-    while k < list.len() {
-        if !contains(octet, wide_octet(list[k])) {
-            n += 1;
-        }
-        k += 1;
-    }
-    n
-}
-
-// The gap: 0 when all orders were tried, otherwise the count of those without a byte for a closed file, less
-// the grants (R-14.3).
-pub fn gap_of(all: bool, closed: u8, list: &[u8], grants: u8) -> u8
-    requires { (length list.now ≤ transaction_count)
-        × (all_in (λ t. leb t last_transaction) list.now ≡ true) }
-    ensures { result ≡ cond all 0 (count_in (λ t. not (contained closed t)) list.now - grants) }
-{
-    if all {
-        return 0;
-    }
-    let n = count_outside(closed, list);
-    if n < grants {
-        return 0;
-    }
-    n - grants
+    list.numbers
+        .iter()
+        .filter(|t| !contains(octet, usize::from(**t)))
+        .count() as u8
 }

@@ -7,6 +7,7 @@
 mod admit_list;
 mod best;
 mod follow;
+mod members;
 mod order_call;
 mod pass;
 mod permutation;

@@ -1,8 +1,9 @@
 // The call that answers the best order to commit in.
-ghost use Rattle.std.specs.Prelude.{true, ◌≡◌, length};
+ghost use Rattle.std.specs.Prelude.{true, ◌≡◌, length, MatchResult};
 ghost use Rattle.limits.specs.Limits.{buffer_bytes};
 ghost use Rattle.state.specs.Layout.{store_of, journal_of};
-ghost use Rattle.admission.specs.Admission.{store_in};
+ghost use Rattle.state.specs.Outcomes.{number};
+ghost use Rattle.admission.specs.Admission.{first_tests, store_in};
 ghost use Rattle.spec.specs.Messages.{Call};
 ghost use Rattle.spec.specs.Calls.{call};
 ghost use Rattle.spec.specs.Promises.{Follows, lent_shared};
@@ -10,54 +11,66 @@ ghost use Rattle.call_order.specs.Answer.{order_in, Padded};
 ghost use Rattle.call_order.specs.OrderTable.{list_refusal, AnswersOrder};
 
 use crate::admit_list::admit_list;
-use crate::best::{OrderTable, best_of, gap_of};
-use crate::permutation::{factorial, numbers_of};
+use crate::best::OrderTable;
+use crate::members::Members;
+use crate::permutation::factorial;
 use crate::table::{closed_of, none_waits, octets_of};
-use admission::{Gate, first_tests};
-use limits::smaller;
+use admission::{Sizes, first_tests};
 use state::TRANSACTIONS;
 use state::layout::State;
-use state::outcomes::Outcome;
+use state::outcomes::{Answer, Outcome, Refusal};
 
 // An order's grants, the gap and how many orders were tried, or a refusal; and the order: as many numbers as
-// the list has, and zeros after them; with a refusal, zeros.
+// the list has, and zeros after them; with a refusal, zeros. So it is no Result: C is answered the zeros too, and
+// the example `refused` of specs/Examples.antt says them.
 #[derive(Clone, Copy)]
 pub struct Best {
     pub outcome: Outcome,
     pub order: [u8; TRANSACTIONS],
 }
 
-// The answer, once no test refuses.
-fn best_by_table<'a>(
-    state: &'a State,
-    marks: &'a [u8],
+// Refusals 1 and 2, then those of the list.
+fn admitted<'a>(
+    state: &State,
+    sizes: Sizes,
     list: &'a [u8],
-    minute: u16,
+    minute: usize,
     budget: usize,
-) -> Best
+) -> Result<Members<'a>, Refusal>
+    ensures { MatchResult result
+        (λ members. (members.numbers.now ≡ list.now) × (first_tests sizes (store_of state.now)
+        (journal_of state.now) (list_refusal state.now list.now minute budget) ≡ 0))
+        (λ r. number r ≡ first_tests sizes (store_of state.now)
+        (journal_of state.now) (list_refusal state.now list.now minute budget)) }
+{
+    first_tests(state, sizes)?;
+    admit_list(state, list, minute, budget)
+}
+
+// The answer, once no test refuses.
+fn best_by_table(state: &State, marks: &[u8], list: Members, minute: u16, budget: usize) -> Best
     requires { (store_in (store_of state.now) (journal_of state.now) ≡ true)
         × (length marks.now ≡ buffer_bytes)
-        × (list_refusal state.now list.now minute budget ≡ 0) }
-    ensures { AnswersOrder state.now marks.now list.now
+        × (list_refusal state.now list.numbers.now minute budget ≡ 0) }
+    ensures { AnswersOrder state.now marks.now list.entry.numbers.now
         minute budget result
-        × Padded (length list.now) result }
+        × Padded (length list.entry.numbers.now) result }
 {
     let table = octets_of(state, marks, list);
     let closed = closed_of(state, minute);
     let placed = none_waits(state, list);
     let known = OrderTable {
         table,
-        closed: closed,
+        closed,
         placed,
     };
-    let n = list.len();
-    let all = factorial(n);
-    let tried = smaller(budget, all);
-    let b = best_of(state, known, numbers_of(list), n, tried);
-    let gap = gap_of(tried == all, closed, list, b.grants);
+    let all = factorial(list.numbers.len());
+    let tried = budget.min(all);
+    let b = known.best_of(state, list, tried);
+    let gap = known.gap_of(tried == all, list, b.grants);
     let order = b.order;
     Best {
-        outcome: Outcome::Ordered(b.grants, gap, tried as u16),
+        outcome: Ok(Answer::Ordered(b.grants, gap, tried as u16)),
         order,
     }
 }
@@ -78,19 +91,12 @@ pub fn best_order<'a>(
         (lent_shared state.now) (lent_shared files.now) (lent_shared logs.now) (lent_shared marks.now) (lent_shared undo.now)
         result.outcome (order_in (length list.now) result) × Padded (length list.now) result }
 {
-    let gate = first_tests(state, files.len(), logs.len(), marks.len(), undo.len());
-    if let Gate::Refused(r) = gate {
-        return Best {
-            outcome: Outcome::Refused(r),
+    let sizes = Sizes::of(files, logs, marks, undo);
+    match admitted(state, sizes, list, minute, budget) {
+        Ok(members) => best_by_table(state, marks, members, minute as u16, budget),
+        Err(r) => Best {
+            outcome: Err(r),
             order: [0u8; TRANSACTIONS],
-        };
+        },
     }
-    let verdict = admit_list(state, list, minute, budget);
-    if let Gate::Refused(r) = verdict {
-        return Best {
-            outcome: Outcome::Refused(r),
-            order: [0u8; TRANSACTIONS],
-        };
-    }
-    best_by_table(state, marks, list, minute as u16, budget)
 }

@@ -11,8 +11,10 @@ use Rattle.buffers.proofs.PartLaws.{le-or-lt}
 use Rattle.standings.specs.declared.{Place.{Place, TheVariants.{At, After}}}
 use Rattle.state.specs.{declared.journal.WriteRecord.WriteRecord, Journal.write_record_at}
 use Rattle.spec.specs.Places.{no_place}
-use Rattle.read_lookup.specs.declared.{Extent.Extent, Run.Run, Supplier.{Supplier, TheVariants.{File, Record}}}
-use Rattle.read_lookup.specs.Lookup.{Recorded, covers, newest, supplier, is_record, RunOf}
+use Rattle.std.specs.Prelude.{Option, Some, None, is_some}
+use Rattle.read_lookup.specs.declared.{Extent.Extent, Run.Run}
+use Rattle.admission.proofs.Laws.{some-none, some_more}
+use Rattle.read_lookup.specs.Lookup.{Recorded, covers, newest, supplier, RunOf}
 use Rattle.call_places.specs.PlacesCall.{covered_at, waits_on, Upto, NextOf}
 
 -- ---- a write record that has no place yet
@@ -37,31 +39,31 @@ pub covered_more : (j : Recorded) (t k f q : ℕ)
 unfolding covered_at supplier newest
 covered_more j t k f q = pick (covers j.filenumbers f q (write_record_at j.journal t k))
   where
-    pick : (b : Bool) → is_record (cond b (Record k) (supplier j t k f q)) ≡ (covered_at j t k f q || b)
+    pick : (b : Bool) → is_some (cond b (Some k) (supplier j t k f q)) ≡ (covered_at j t k f q || b)
     pick true = sym (or-true (covered_at j t k f q))
     pick false = sym (or-false (covered_at j t k f q))
 
 -- ---- a run
 
-supplier-file : (x : Supplier) → is_record x ≡ false → x ≡ File
-supplier-file File e = refl
-supplier-file (Record k) e = absurd (let z : ◌≡◌ {A = Bool} true false = e in let n : ◌≡◌ {A = ℕ} 0 1 = cc in omega arith)
+supplier-file : (x : Option ℕ) → is_some x ≡ false → x ≡ None
+supplier-file None e = refl
+supplier-file (Some k) e = absurd (let z : ◌≡◌ {A = Bool} true false = e in let n : ◌≡◌ {A = ℕ} 0 1 = cc in omega arith)
 
-not-file : (x : Supplier) → (x ≡ File → ⊥) → is_record x ≡ true
-not-file File h = absurd (h refl)
-not-file (Record k) h = refl
+not-file : (x : Option ℕ) → (x ≡ None → ⊥) → is_some x ≡ true
+not-file None h = absurd (h refl)
+not-file (Some k) h = refl
 
 module _ (j : Recorded) (t records : ℕ) (e : Extent) (r : Run) (run : RunOf j t records e r) where
   abbrev covered : ℕ → Bool
   covered = covered_at j t records e.file
 
   abbrev logged : Bool
-  logged = is_record r.supplier
+  logged = is_some r.supplier
 
   run_along : (q : ℕ) → e.place ≤ q → q < e.place + r.length → covered q ≡ logged
   run_along q g l = unfold covered_at in let i : e.place + (q - e.place) ≡ q = omega arith in
-      ap (λ (x : ℕ). is_record (supplier j t records e.file x)) (sym i)
-      ∙ ap is_record (run.same (q - e.place) (omega arith)) ∙ sym (ap is_record run.supplied)
+      ap (λ (x : ℕ). is_some (supplier j t records e.file x)) (sym i)
+      ∙ ap is_some (run.same (q - e.place) (omega arith)) ∙ sym (ap is_some run.supplied)
 
   run-first : covered e.place ≡ logged
   run-first = run_along e.place (omega arith) (omega (arith, run.some))
@@ -70,7 +72,7 @@ module _ (j : Recorded) (t records : ℕ) (e : Extent) (r : Run) (run : RunOf j 
   run-then : logged ≡ false → r.length < e.length → covered (e.place + r.length) ≡ true
   unfolding covered_at
   run-then b l = not-file (supplier j t records e.file (e.place + r.length)) (λ q. run.longest l (q
-      ∙ sym (supplier-file (supplier j t records e.file e.place) (sym (ap is_record run.supplied) ∙ b))))
+      ∙ sym (supplier-file (supplier j t records e.file e.place) (sym (ap is_some run.supplied) ∙ b))))
 
   module _ (whole : e.length ≡ file_bytes - e.place) (inside : e.place < file_bytes) where
     -- the first place is covered
@@ -110,3 +112,6 @@ pub next_of : (S : ℕ → Bool) (p offset end n : ℕ) → Upto S false p offse
     → NextOf S p (record { offset = offset; length = n })
 next_of S p offset end n a b e = let q : end ≡ offset + n = omega (arith, b.start) in
     record { before = a; whole = subst (λ (x : ℕ). Upto S true offset x) q b }
+
+-- None of the records so far passes a test.
+pub ruleset so_far = (some-none, some_more)

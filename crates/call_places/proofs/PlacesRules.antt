@@ -1,11 +1,12 @@
 -- The rule of the call that lists places, after each of its tests. Assumes nothing.
+use Rattle.std.specs.declared.result.Result.TheVariants.{Ok}
 use mathlib.Core.{Bool.{Bool, true, false, cond}, List.{List, [], ◌∷◌}, Path.{◌≡◌, sym, ap, ◌∙◌}}
 use borrow.Author.Tests.{le-leb, lt-leb}
 use lib.{Dec.eqb, ListN.length}
 use native.Mathlib.Omega.{arith}
 use Prim.Native.Nat.{ℕ, zero, suc, ◌*◌, ◌≤◌, ◌<◌}
 use Rattle.limits.specs.Limits.{last_file, file_bytes}
-use Rattle.state.specs.{StoreMeaning.transaction, Outcomes.{pairs, said}, declared.outcomes.Outcome.TheVariants.Pairs}
+use Rattle.state.specs.{StoreMeaning.transaction, Outcomes.{pairs, said}, declared.outcomes.Answer.TheVariants.{Pairs}}
 use Rattle.admission.specs.{Admission.admission, FirstRefusal.unless}
 use Rattle.spec.specs.{Transactions.Txn, Messages.places, Machine.{Machine, sizes, file_of, txn_of}}
 use Rattle.spec.specs.Calls.{Turn, refuse_turn, admitted, places_turn, call}
@@ -82,7 +83,7 @@ module _ (t f : ℕ) (out : List ℕ) (m : Machine) (passes : admission (sizes m
           replied 16 (rw (le-leb f last_file low, waiting-is, placed, listed, lt-leb (4 * length list) (length out) h))
 
       pub places-meets : 4 * length list ≤ length out → (n : ℕ) → n ≡ length list
-          → Meets (call (places t f out) m) (Pairs n) m (with_pairs list out)
+          → Meets (call (places t f out) m) (Ok (Pairs n)) m (with_pairs list out)
       unfolding places_refusal unless places_reply said
       places-meets h n e = let reply = replied 0
           (rw (le-leb f last_file low, waiting-is, placed, listed, le-leb (4 * length list) (length out) h)) in record {

@@ -1,18 +1,18 @@
 -- The places of a file that a transaction's write records cover, and those of its records that have no place
 -- yet.
-use Rattle.std.specs.Prelude.{Bool, true, false, not, ◌&&◌, List, ◌≡◌, eqb, get_or, ℕ, ◌+◌, ◌≤◌, ◌<◌}
+use Rattle.std.specs.Prelude.{is_some, Bool, true, false, not, ◌&&◌, List, ◌≡◌, eqb, get_or, ℕ, ◌+◌, ◌≤◌, ◌<◌}
 use Rattle.limits.specs.Limits.{file_bytes}
 use Rattle.counters.specs.declared.Used.{Used}
 use Rattle.state.specs.declared.journal.WriteRecord.{WriteRecord}
 use Rattle.state.specs.Journal.{write_record_at}
 use Rattle.admission.specs.FirstRefusal.{some_below}
 use Rattle.spec.specs.Places.{no_place, intervals_of, Interval as Listed}
-use Rattle.read_lookup.specs.Lookup.{Recorded, recorded_in, is_record, supplier}
+use Rattle.read_lookup.specs.Lookup.{Recorded, recorded_in, supplier}
 use Rattle.call_places.specs.declared.PlaceInterval.{PlaceInterval}
 
 -- Whether a write record of transaction t, which has so many, covers place p of file f.
 unfoldable pub covered_at : Recorded → ℕ → ℕ → ℕ → ℕ → Bool
-covered_at j t records f p = is_record (supplier j t records f p)
+covered_at j t records f p = is_some (supplier j t records f p)
 
 -- The list of the places that the write records of a state cover.
 abbrev pub intervals_in : List ℕ → ℕ → Used → ℕ → List Listed

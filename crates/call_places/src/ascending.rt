@@ -2,18 +2,17 @@
 // starts where the one before it ends, or later. One pass counts the intervals, a second writes the pairs.
 ghost use Rattle.std.specs.Prelude.{true, ◌≡◌, length, suc, ◌+◌, ◌*◌, ◌<◌, ◌≤◌};
 ghost use Rattle.limits.specs.Limits.{file_bytes, descriptor_count};
-ghost use Rattle.state.specs.Layout.{store_of, journal_of};
+ghost use Rattle.state.specs.Layout.{store_of};
 ghost use Rattle.spec.specs.Places.{with_pairs};
-ghost use Rattle.read_lookup.specs.Lookup.{recorded_in, CountedRecords};
+ghost use Rattle.read_lookup.specs.Lookup.{recorded_in};
 ghost use Rattle.call_places.specs.PlacesCall.{intervals_in, waits_on_file};
 ghost use Rattle.call_places.specs.Ascending.{unswept, swept_place, swept_record, swept_in};
 ghost use Rattle.call_places.specs.Ascending.{WithinFile, with_last};
 
 use crate::{PlaceInterval, count_intervals, put_pair, waiting, write_interval_list};
-use counters::Used;
-use limits::wide;
+use read_lookup::Records;
 use standings::Place;
-use state::journal::{WriteRecord, record_at};
+use state::journal::WriteRecord;
 use state::layout::{State, file_at};
 
 // What a pass has met: whether the file's records ascend, each with a place; how many intervals they make;
@@ -33,17 +32,16 @@ fn sweep_place(s: Sweep, p: usize, n: usize) -> Sweep
 {
     if s.next <= p {
         return Sweep {
-            ascending: s.ascending,
             intervals: s.intervals + 1,
             offset: p,
             next: p + n + 1,
+            ..s
         };
     }
     Sweep {
         ascending: s.ascending & (s.next == p + 1),
-        intervals: s.intervals,
-        offset: s.offset,
         next: p + n + 1,
+        ..s
     }
 }
 
@@ -53,23 +51,20 @@ fn sweep_record(state: &State, s: Sweep, w: WriteRecord, f: u16) -> Sweep
     requires { (w.descriptor < descriptor_count) × (s.intervals < 65536) }
     ensures { result ≡ swept_record (store_of state.now).filenumbers f s w }
 {
-    if file_at(state, wide(w.descriptor)) != f {
+    if file_at(state, usize::from(w.descriptor)) != f {
         return s;
     }
-    let place = w.place;
-    let Place::At(p) = place else {
+    let Place::At(p) = w.place else {
         return Sweep {
             ascending: false,
-            intervals: s.intervals,
-            offset: s.offset,
-            next: s.next,
+            ..s
         };
     };
-    let n = wide(w.length);
+    let n = usize::from(w.length);
     if n == 0 {
         return s;
     }
-    sweep_place(s, wide(p), n)
+    sweep_place(s, usize::from(p), n)
 }
 
 // The pass before the first record.
@@ -85,21 +80,21 @@ fn unswept() -> Sweep
 }
 
 // The pass over all write records of transaction t on file f.
-pub fn sweep_records(state: &State, t: usize, used: Used, f: u16) -> Sweep
-    requires { CountedRecords (journal_of state.now) t used }
-    ensures { result ≡ swept_in (recorded_in state.now) t f used.records }
+pub fn sweep_records(records: &Records<'_>, f: u16) -> Sweep
+    ensures { result ≡ swept_in (recorded_in records.now.state.now) records.now.t f records.now.used.records }
 {
+    // A copy: the loop then has the state and t in registers.
+    let records = *records;
     let mut s = unswept();
-    let mut k = 0;
-    while k < used.records {
-        let w = record_at(state, t, k);
-        s = sweep_record(state, s, w, f);
-        k += 1;
+    for k in 0..records.used.records {
+        let w = records.get(k);
+        s = sweep_record(records.state, s, w, f);
     }
     s
 }
 
 // Writes the pair of the last interval that a pass has met at its place in the list.
+#[tactic(auto, using(crate::proofs::SweepLaws::last_none, crate::proofs::SweepLaws::last_some))]
 fn put_last(out: &mut [u8], s: Sweep)
     requires intervals_in_bounds { (4 * s.intervals ≤ length out.old) × (s.next ≤ file_bytes + 1) }
     requires last { 1 ≤ s.next → (1 ≤ s.intervals) × (suc s.offset ≤ s.next) }
@@ -115,62 +110,66 @@ fn put_last(out: &mut [u8], s: Sweep)
     put_pair(out, 4 * (s.intervals - 1), last);
 }
 
-// Writes the pairs of the list of records that ascend. After k records, the list of the first k is written.
-fn write_ascending(state: &State, t: usize, used: Used, f: u16, out: &mut [u8])
-    requires counted { CountedRecords (journal_of state.now) t used
-        × WithinFile (recorded_in state.now) t used.records }
-    requires ascend { (swept_in (recorded_in state.now) t f used.records).ascending ≡ true }
-    requires room { 4 * length (intervals_in state.now t used f) ≤ length out.old }
-    ensures { out.new
-        ≡ with_pairs (intervals_in state.now t used f) out.old }
-{
-    let mut s = unswept();
-    let mut k = 0;
-    while k < used.records {
-        let w = record_at(state, t, k);
-        s = sweep_record(state, s, w, f);
-        put_last(out, s);
-        k += 1;
-    }
+// A pass over all write records of a transaction on a file, each of which ends within the file, with what it
+// has met.
+#[derive(Clone, Copy)]
+pub struct Pass<'a> {
+    pub records: Records<'a>,
+    pub file: u16,
+    pub met: Sweep,
+    pub ghost within: { WithinFile (recorded_in records.state.now) records.t records.used.records },
+    pub ghost swept: { met ≡ swept_in (recorded_in records.state.now) records.t file records.used.records },
 }
 
-// A write of transaction t on file f has no place yet. Records that ascend all have one.
-pub fn is_waiting(state: &State, t: usize, used: Used, f: u16, s: Sweep) -> bool
-    requires counted { CountedRecords (journal_of state.now) t used }
-    requires swept { s ≡ swept_in (recorded_in state.now) t f used.records }
-    ensures { result ≡ waits_on_file (recorded_in state.now) t used.records f }
-{
-    if s.ascending {
-        return false;
+impl<'a> Pass<'a> {
+    // Writes the pairs of the list of records that ascend. After k records, the list of the first k is
+    // written.
+    fn write_ascending(&self, out: &mut [u8])
+        requires ascend { self.now.met.ascending ≡ true }
+        requires room { 4 * length (intervals_in self.now.records.state.now self.now.records.t self.now.records.used self.now.file) ≤ length out.old }
+        ensures { out.new
+            ≡ with_pairs (intervals_in self.now.records.state.now self.now.records.t self.now.records.used self.now.file) out.old }
+    {
+        // A copy: the loop then has the state and t in registers.
+        let records = self.records;
+        let mut s = unswept();
+        for k in 0..records.used.records {
+            let w = records.get(k);
+            s = sweep_record(records.state, s, w, self.file);
+            put_last(out, s);
+        }
     }
-    waiting(state, t, used, f)
-}
 
-// How many intervals the list has.
-pub fn count(state: &State, t: usize, used: Used, f: u16, s: Sweep) -> usize
-    requires counted { CountedRecords (journal_of state.now) t used
-        × WithinFile (recorded_in state.now) t used.records }
-    requires swept { s ≡ swept_in (recorded_in state.now) t f used.records }
-    ensures { result ≡ length (intervals_in state.now t used f) }
-{
-    if s.ascending {
-        return s.intervals;
+    // A write of the transaction on the file has no place yet. Records that ascend all have one.
+    pub fn is_waiting(&self) -> bool
+        ensures { result ≡ waits_on_file (recorded_in self.now.records.state.now) self.now.records.t self.now.records.used.records self.now.file }
+    {
+        if self.met.ascending {
+            return false;
+        }
+        waiting(&self.records, self.file)
     }
-    count_intervals(state, t, used, f)
-}
 
-// Writes the pairs of the list to the front of the buffer.
-pub fn write_intervals(state: &State, t: usize, used: Used, f: u16, s: Sweep, out: &mut [u8])
-    requires counted { CountedRecords (journal_of state.now) t used
-        × WithinFile (recorded_in state.now) t used.records }
-    requires swept { s ≡ swept_in (recorded_in state.now) t f used.records }
-    requires room { 4 * length (intervals_in state.now t used f) ≤ length out.old }
-    ensures { out.new
-        ≡ with_pairs (intervals_in state.now t used f) out.old }
-{
-    if s.ascending {
-        write_ascending(state, t, used, f, out);
-        return;
+    // How many intervals the list has.
+    pub fn count(&self) -> usize
+        ensures { result ≡ length (intervals_in self.now.records.state.now self.now.records.t self.now.records.used self.now.file) }
+    {
+        if self.met.ascending {
+            return self.met.intervals;
+        }
+        count_intervals(&self.records, self.file)
     }
-    write_interval_list(state, t, used, f, out);
+
+    // Writes the pairs of the list to the front of the buffer.
+    pub fn write_intervals(&self, out: &mut [u8])
+        requires room { 4 * length (intervals_in self.now.records.state.now self.now.records.t self.now.records.used self.now.file) ≤ length out.old }
+        ensures { out.new
+            ≡ with_pairs (intervals_in self.now.records.state.now self.now.records.t self.now.records.used self.now.file) out.old }
+    {
+        if self.met.ascending {
+            self.write_ascending(out);
+            return;
+        }
+        write_interval_list(&self.records, self.file, out);
+    }
 }

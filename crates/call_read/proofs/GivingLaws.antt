@@ -72,9 +72,8 @@ places-are state t d n used place f end e eu ep ef el ee = rw (ee, el, eu, ep, e
 -- What is handed over and given, with the counters and the places as the code has them.
 module _ (state files logs marks : List ℕ) (t : ℕ) (used : Used) (e places : Extent) (eu : used ≡ (transaction_of state t).used)
     (ee : e ≡ places) where
-  pub handed-as : HandedWhole state files logs marks t (transaction_of state t).used places
-      → HandedWhole state files logs marks t used e
-  handed-as h = rw (eu, ee) h
+  pub handed-as : HandedWhole files logs marks places → HandedWhole files logs marks e
+  handed-as h = rw ee h
 
   pub given-as : (reader marks_then reader_then : List ℕ) → reader_then ≡ bytes_read (recorded_in state) t used.records
       (log_part logs t) (file_part files e.file) e ++ drop e.length reader

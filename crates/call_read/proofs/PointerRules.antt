@@ -1,4 +1,5 @@
 -- The rule of GetFilePointer after each of its tests.
+use Rattle.std.specs.declared.result.Result.TheVariants.{Ok, Err}
 use mathlib.Core.{Bool.{Bool, true, false, cond, true≢false}, List.{List, [], ◌∷◌}, Path.{◌≡◌, refl, sym, ap, ap₂, ◌∙◌}}
 use borrow.Author.Tests.{le-leb}
 use lib.Dec.{leb}
@@ -6,7 +7,7 @@ use native.Mathlib.Omega.{arith}
 use Prim.Native.Nat.{ℕ, ◌≤◌}
 use Rattle.limits.specs.Limits.{last_descriptor}
 use Rattle.standings.specs.{declared.Standing.Standing, Table.{pointer_settles, offset_of}}
-use Rattle.state.specs.declared.outcomes.{Outcome.TheVariants.{Offset, Refused}, Refusal.{Refusal, TheVariants.AppendPastEnd}}
+use Rattle.state.specs.declared.outcomes.{Answer.TheVariants.{Offset}, Refusal.{Refusal, TheVariants.AppendPastEnd}}
 use Rattle.state.specs.declared.{Transaction.Transaction, StoreMeaning.StoreMeaning}
 use Rattle.state.specs.{StoreMeaning.{transaction, standing_at, with_lengthmarks, with_transaction}, Layout.transaction_of}
 use Rattle.state.specs.Outcomes.{number, pointer, said}
@@ -19,12 +20,12 @@ use Rattle.spec.specs.{Calls.{Turn, refuse_turn, marked, logged, served, call}, 
 use Rattle.spec.proofs.Abstract.Programs.{result-and_then, asked-and_then, not-stale}
 use Rattle.refinement.proofs.{Decoded.Opened, Settling.{marked-settling, lengths-settling}}
 use Rattle.refinement.proofs.TurnLaws.{program, on-stepped, check-held, check-failed}
-use Rattle.read_settle.specs.{declared.settle_call.Verdict.Verdict, Choices.{chosen_by_pointer, all_within, settled_transaction}}
+use Rattle.std.specs.Prelude.{Result, Ok, Err, ⊤}
+use Rattle.read_settle.specs.{Choices.{chosen_by_pointer, all_within, settled_transaction}}
 use Rattle.read_settle.proofs.Settled.{settled_txn, settled_journal, txn-settled, journal-settled, standing-settled}
 use Rattle.read_settle.proofs.{ChoiceLaws.{verdict-past, verdict-settled}, Chosen.settling-pointer}
 use Rattle.call_read.proofs.ReadTests.{read_refusal, read-test-refused, ReadAdmitted, turned_left, SettledAs}
 use Rattle.call_read.proofs.ReadTests.{transaction-now}
-use Rattle.read_settle.specs.declared.settle_call.Verdict.TheVariants as verdict
 
 module _ (t d : ℕ) (m : Machine) (passes : admission (sizes m) m.store m.journal t ≡ 0) where
   pub pointer-refused : (r : Refusal) → number r ≡ read_refusal (transaction m.store t).stale d 0 0
@@ -98,7 +99,7 @@ module _ (t d : ℕ) (m : Machine) (passes : admission (sizes m) m.store m.journ
 
   meets : Opened m.store m.journal m.logs t → held.stale ≡ false → d ≤ last_descriptor
       → all_within choice m.store.offsets held ≡ true → Meets (call (on t (get_file_pointer d)) m)
-      (Offset (offset_of (standing_at afterwards d))) (with_store (with_transaction t afterwards m.store)
+      (Ok (Offset (offset_of (standing_at afterwards d)))) (with_store (with_transaction t afterwards m.store)
       (with_journal (settled_journal m.store m.journal t choice) m)) []
   unfolding or_given_back result served said expected logged
   meets o f h e = let w = on-stepped t (get_file_pointer d) m passes (not-stale held.stale (get_file_pointer d) f)
@@ -118,20 +119,20 @@ module _ (t d : ℕ) (m : Machine) (passes : admission (sizes m) m.store m.journ
 -- The same of what the code has, once it may look: the record before settling and after.
 module _ {state files logs marks undo : List ℕ} {t d : ℕ} (l : ReadAdmitted state files logs marks undo t d 0 0)
     (now : List ℕ) where
-  abbrev SettledTo : Verdict → Type 0
+  abbrev SettledTo : Result ⊤ Refusal → Type 0
   SettledTo = SettledAs (λ x. chosen_by_pointer x d) t state now
 
   abbrev answered : Turn
   answered = call (on t (get_file_pointer d)) (machine_of state files logs marks undo)
 
-  pub pointer-past-follows : SettledTo verdict.Past → Meets answered (Refused AppendPastEnd)
-      (machine_of now files logs marks undo) [] × LeftAsFound (Refused AppendPastEnd) state now
-  pointer-past-follows s = turned_left AppendPastEnd [] state files logs marks undo answered
+  pub pointer-past-follows : (r : Refusal) → SettledTo (Err r) → Meets answered (Err AppendPastEnd)
+      (machine_of now files logs marks undo) [] × LeftAsFound (Err AppendPastEnd) state now
+  pointer-past-follows r s = turned_left AppendPastEnd [] state files logs marks undo answered
       (pointer-past t d (machine_of state files logs marks undo) l.passes l.may.fresh l.may.low
-      (verdict-past _ _ _ (sym s.verdict))) now (s.refused refl)
+      (verdict-past _ _ _ r (sym s.verdict))) now (s.refused r refl)
 
-  pub pointer-follows : SettledTo verdict.Settled → (a : ℕ) → a ≡ offset_of (standing_at (transaction_of now t) d)
-      → Meets answered (Offset a) (machine_of now files logs marks undo) [] × LeftAsFound (Offset a) state now
+  pub pointer-follows : SettledTo (Ok tt) → (a : ℕ) → a ≡ offset_of (standing_at (transaction_of now t) d)
+      → Meets answered (Ok (Offset a)) (machine_of now files logs marks undo) [] × LeftAsFound (Ok (Offset a)) state now
   pointer-follows s a ea = (
     rw (ea, transaction-now (λ x. chosen_by_pointer x d) s l.held.small, s.store refl, s.journal refl)
         (meets t d (machine_of state files logs marks undo) l.passes l.held l.may.fresh l.may.low

@@ -1,4 +1,5 @@
 -- The rule of Read after each of its tests.
+use Rattle.std.specs.declared.result.Result.TheVariants.{Ok, Err}
 use mathlib.Core.{Bool.{Bool, true, false, cond, not, ◌||◌}, List.{List, [], ◌∷◌, ◌++◌, append-nil}}
 use mathlib.Core.Path.{◌≡◌, refl, sym, ap, ap₂, ◌∙◌}
 use borrow.Author.Tests.{le-leb, leb-true}
@@ -9,7 +10,7 @@ use Rattle.limits.specs.Limits.{file_bytes, last_descriptor, log_bytes}
 use Rattle.buffers.{specs.{Bits.with_bit, Parts.file_part}, proofs.PartLaws.length_cut}
 use Rattle.standings.specs.declared.{Standing.{Standing, TheVariants.{Untouched, Placed, Deferred, Moved, Known}}}
 use Rattle.standings.specs.Table.{after_read, read_settles, offset_of, advance, settled}
-use Rattle.state.specs.declared.outcomes.{Outcome.TheVariants.{Given, Refused}, Refusal.{Refusal, TheVariants.AppendPastEnd}}
+use Rattle.state.specs.declared.outcomes.{Answer.TheVariants.{Given}, Refusal.{Refusal, TheVariants.AppendPastEnd}}
 use Rattle.state.specs.declared.{Transaction.Transaction, StoreMeaning.StoreMeaning}
 use Rattle.state.specs.{StoreMeaning.{transaction, standing_at, with_transaction}, Journal.write_record_at}
 use Rattle.state.specs.{Layout.{transaction_of, store_of, journal_of, state_length}, Outcomes.{number, given, said}}
@@ -29,7 +30,7 @@ use Rattle.spec.proofs.Refinement.{StepPreserves.{pieces, settling-preserved}, W
 use Rattle.refinement.{specs.Settling.settle_all, proofs.{Shapes.shape-put-twice, Decoded.Opened}}
 use Rattle.refinement.proofs.Settling.{marked-settling, lengths-settling}
 use Rattle.refinement.proofs.TurnLaws.{LetThrough, program, on-stepped, check-held, check-failed}
-use Rattle.read_settle.specs.declared.settle_call.Verdict.{Verdict}
+use Rattle.std.specs.Prelude.{Result, Ok, Err, ⊤}
 use Rattle.read_settle.specs.Choices.{chosen_by_read, settles_within, all_within, settled_transaction}
 use Rattle.read_settle.proofs.Settled.{settled_txn, settled_journal, txn-settled-dirtied, journal-settled, descriptor-settled}
 use Rattle.read_settle.proofs.Settled.{data-settled, writes-settled, standing-settled}
@@ -42,7 +43,6 @@ use Rattle.read_fetch.proofs.MachineLaws.{bytes-are, marks-are}
 use Rattle.call_read.specs.ReadCall.{places_from, after_giving, MovedOn, Readable, Served}
 use Rattle.call_read.proofs.ReadTests.{read_refusal, read-test-refused, ReadAdmitted, turned_left, SettledAs}
 use Rattle.call_read.proofs.ReadTests.{transaction-now}
-use Rattle.read_settle.specs.declared.settle_call.Verdict.TheVariants as verdict
 
 -- ---- the offset of a standing in range, and of one that was settled
 
@@ -319,8 +319,8 @@ module _ (t d n : ℕ) (buffer : List ℕ) (m : Machine) (passes : admission (si
             few = omega arith;
             room = room;
             standing = rw standing-is (meant-in.standings d);
+            counted = counted;
             handed = record {
-              counted = counted;
               files_length = through.lengths.files;
               logs_length = through.lengths.logs;
               marks_length = through.lengths.marks;
@@ -363,7 +363,7 @@ module _ (t d n : ℕ) (buffer : List ℕ) (m : Machine) (passes : admission (si
 
           read_meets : (r : ℕ) (after marks_then reader : List ℕ) → r ≡ (places_from now t d n).length
               → MovedOn t d n (places_from now t d n) now after → Served t (places_from now t d n) now m.files m.logs
-              m.marks buffer marks_then reader → Meets (call (on t (read d n buffer)) m) (Given r)
+              m.marks buffer marks_then reader → Meets (call (on t (read d n buffer)) m) (Ok (Given r))
               (lent (store_of after) (journal_of after) m.files m.logs marks_then m.undo) reader
           read_meets r after marks_then reader er moved served = unfold said in let e = places_from now t d n in record {
             outcome = ap given (er ∙ ap (λ (e : Extent). e.length) places-are)
@@ -379,7 +379,7 @@ module _ (t d n : ℕ) (buffer : List ℕ) (m : Machine) (passes : admission (si
 -- The same of what the code has, once it may look: the record before settling and after.
 module _ {state files logs marks undo : List ℕ} {t d n : ℕ} (buffer : List ℕ)
     (l : ReadAdmitted state files logs marks undo t d n (length buffer)) (now : List ℕ) where
-  abbrev SettledTo : Verdict → Type 0
+  abbrev SettledTo : Result ⊤ Refusal → Type 0
   SettledTo = SettledAs (λ x. chosen_by_read (store_of state).filenumbers x d) t state now
 
   abbrev machine : Machine
@@ -388,13 +388,13 @@ module _ {state files logs marks undo : List ℕ} {t d n : ℕ} (buffer : List �
   abbrev answered : Turn
   answered = call (on t (read d n buffer)) machine
 
-  pub past-follows : SettledTo verdict.Past → Meets answered (Refused AppendPastEnd) (machine_of now files logs marks undo)
-      buffer × LeftAsFound (Refused AppendPastEnd) state now
-  past-follows s =
+  pub past-follows : (r : Refusal) → SettledTo (Err r) → Meets answered (Err AppendPastEnd) (machine_of now files logs marks undo)
+      buffer × LeftAsFound (Err AppendPastEnd) state now
+  past-follows r s =
       turned_left AppendPastEnd buffer state files logs marks undo answered (read_past t d n buffer machine l.passes
-      l.held l.may.fresh l.may.low l.may.roomy (verdict-past _ _ _ (sym s.verdict))) now (s.refused refl)
+      l.held l.may.fresh l.may.low l.may.roomy (verdict-past _ _ _ r (sym s.verdict))) now (s.refused r refl)
 
-  module _ (s : SettledTo verdict.Settled) where
+  module _ (s : SettledTo (Ok tt)) where
     -- "lengths, at most 4,096"
     limits : (g : ℕ) → values (store_of state) files (file_length g) ≤ file_bytes
     limits = length-in _ _ _ l.held.shape.lengths (in-range (store_of state) (journal_of state) l.through.ranges)
@@ -410,7 +410,7 @@ module _ {state files logs marks undo : List ℕ} {t d n : ℕ} (buffer : List �
 
     pub read-follows : (r : ℕ) (after marks_then reader : List ℕ) → r ≡ (places_from now t d n).length → MovedOn t d n
         (places_from now t d n) now after → Served t (places_from now t d n) now files logs marks buffer marks_then reader
-        → Meets answered (Given r) (machine_of after files logs marks_then undo) reader × LeftAsFound (Given r) state after
+        → Meets answered (Ok (Given r)) (machine_of after files logs marks_then undo) reader × LeftAsFound (Ok (Given r)) state after
     read-follows r after marks_then reader er moved served = (
       read_meets t d n buffer machine l.passes l.held l.may.fresh l.may.low l.may.roomy
           (verdict-settled _ _ _ (sym s.verdict)) limits now stands-now (s.store refl) (s.journal refl)

@@ -1,22 +1,24 @@
 -- The rule of a call that looks, after the tests that GetFilePointer and Read have in common.
+use Rattle.std.specs.declared.result.Result.TheVariants.{Ok, Err}
 use mathlib.Core.{Bool.{Bool, true, false, not, ◌&&◌, and-false}, List.List, Path.{◌≡◌, refl, sym, ap, ◌∙◌}}
 use borrow.Author.Tests.{leb-true}
 use lib.{Dec.leb, ListN.length}
 use native.Mathlib.Omega.{arith}
 use Prim.Native.Nat.{ℕ, ◌≤◌, ◌<◌}
 use Rattle.limits.specs.Limits.{last_descriptor, transaction_count}
-use Rattle.state.specs.declared.{outcomes.{Refusal.Refusal, Outcome.TheVariants.Refused}, Transaction.Transaction}
+use Rattle.state.specs.declared.{outcomes.{Refusal.Refusal}, Transaction.Transaction}
 use Rattle.state.specs.{declared.StoreMeaning.StoreMeaning, StoreMeaning.transaction}
 use Rattle.state.specs.Layout.{transaction_of, store_of, journal_of, state_length}
 use Rattle.state.{proofs.LayoutLaws.{length-journal, transaction-of}, specs.Outcomes.number}
 use Rattle.admission.{specs.{Admission.{admission, gate_number}, FirstRefusal.unless}, proofs.Laws.{number-suc, in-range}}
-use Rattle.admission.specs.declared.{Gate.{Gate, TheVariants.{Pass, Refused as GateRefused}}}
+use Rattle.admission.specs.Admission.{Gate}
 use Rattle.spec.specs.{Items.done, Messages.{Op, buffer_of, on}, Steps.{refuse, descriptor_of_op, is_read_call, refuses_stale}}
 use Rattle.spec.specs.{Machine.{Machine, sizes}, Calls.{Turn, refuse_turn, call}, Promises.{Meets, machine_of, LeftAsFound}}
 use Rattle.refinement.proofs.{Shapes.{shaped, eight, put-read}, Decoded.{Opened, decoded-open}}
 use Rattle.refinement.proofs.TurnLaws.{LetThrough, turned-follows, program, on-refused-stale, on-refused, shared_with}
 use Rattle.refinement.proofs.TurnLaws.{gate-passed, gate-let-through, gate-number, gate-zero, is_open, admission-open}
-use Rattle.read_settle.specs.{declared.settle_call.Verdict.{Verdict, TheVariants.Settled}, Choices.settled_transaction}
+use Rattle.std.specs.Prelude.{Result, Ok, ⊤}
+use Rattle.read_settle.specs.{Choices.settled_transaction}
 use Rattle.read_settle.{specs.{Records.Placeable, Outcome.SettledIn}, proofs.Settled.placeable}
 
 -- Refusals 6, 18 and 7; 0 stands for none.
@@ -93,7 +95,7 @@ read-admitted state files logs marks undo t d n room long passes through begun m
 
 -- What the code's tests told of a call: the gate let it through, and the transaction is begun.
 module _ (state files logs marks undo : List ℕ) (t : ℕ) {gate : Gate}
-    (gates : gate_number gate ≡ shared_with (machine_of state files logs marks undo) t 0) (let_in : gate ≡ Pass)
+    (gates : gate_number gate ≡ shared_with (machine_of state files logs marks undo) t 0) (let_in : gate ≡ Ok tt)
     {begun : Bool} (reads : begun ≡ (transaction_of state t).begun) (is_begun : begun ≡ true) where
   abbrev m : Machine
   m = machine_of state files logs marks undo
@@ -113,23 +115,23 @@ module _ (state files logs marks undo : List ℕ) (t : ℕ) {gate : Gate}
     says : gate_number verdict ≡ read_refusal (transaction (store_of state) t).stale d n room
     says = gate-says state t through.small stale own d n room _ verdicts
 
-    pub tests-refuse : (r : Refusal) → verdict ≡ GateRefused r → number r ≡ read_refusal (transaction m.store t).stale d n room
+    pub tests-refuse : (r : Refusal) → verdict ≡ Err r → number r ≡ read_refusal (transaction m.store t).stale d n room
     tests-refuse r e = gate-number _ _ says r e
 
-    pub read-allowed : length state ≡ state_length → verdict ≡ Pass → ReadAdmitted state files logs marks undo t d n room
+    pub read-allowed : length state ≡ state_length → verdict ≡ Ok tt → ReadAdmitted state files logs marks undo t d n room
     read-allowed long e = read-admitted state files logs marks undo t d n room long tests-admit through begun-is
         (gate-zero _ _ says e)
 
 -- A call that was refused after settling had left the record alone.
 pub turned_left : (r : Refusal) (buffer state files logs marks undo : List ℕ) (w : Turn)
     → w ≡ refuse_turn (number r) buffer (machine_of state files logs marks undo) → (now : List ℕ) → now ≡ state
-    → Meets w (Refused r) (machine_of now files logs marks undo) buffer × LeftAsFound (Refused r) state now
+    → Meets w (Err r) (machine_of now files logs marks undo) buffer × LeftAsFound (Err r) state now
 turned_left r buffer state files logs marks undo w e now same = rw same (turned-follows r buffer state files logs marks undo w e)
 
 -- ---- settling, as the code does it, in the terms of the rules
 
 -- The choice is made by the transaction.
-abbrev pub SettledAs : (Transaction → List Bool) → ℕ → List ℕ → List ℕ → Verdict → Type 0
+abbrev pub SettledAs : (Transaction → List Bool) → ℕ → List ℕ → List ℕ → Result ⊤ Refusal → Type 0
 SettledAs choice t state now v = let x = transaction (store_of state) t in SettledIn (choice x) t x state now v
 
 module _ {state files logs marks undo : List ℕ} {t d n room : ℕ} (l : ReadAdmitted state files logs marks undo t d n room) where
@@ -140,11 +142,11 @@ module _ {state files logs marks undo : List ℕ} {t d n room : ℕ} (l : ReadAd
   all-placeable = placeable state logs t l.held (transaction_of state t).used.records (ap (λ (y : Transaction).
       y.used.records) own_is) l.long (in-range (store_of state) (journal_of state) l.through.ranges).offsets
 
-  pub settled-as : (choice : Transaction → List Bool) (now : List ℕ) (v w : Verdict) → SettledIn
+  pub settled-as : (choice : Transaction → List Bool) (now : List ℕ) (v w : Result ⊤ Refusal) → SettledIn
       (choice (transaction_of state t)) t (transaction_of state t) state now v → v ≡ w → SettledAs choice t state now w
   settled-as choice now v w s ev = rw (own_is, ev) at s
 
-module _ (choice : Transaction → List Bool) {t : ℕ} {state now : List ℕ} (s : SettledAs choice t state now Settled)
+module _ (choice : Transaction → List Bool) {t : ℕ} {state now : List ℕ} (s : SettledAs choice t state now (Ok tt))
     (small : t < transaction_count) where
   pub transaction-now : let x = transaction (store_of state) t in transaction_of now t
       ≡ settled_transaction (choice x) (store_of state).offsets x

@@ -10,7 +10,7 @@ use Rattle.state.specs.Layout.{transaction_of, store_of, journal_of, state_lengt
 use Rattle.admission.specs.Admission.{standing_in}
 use Rattle.spec.specs.Promises.{Lent}
 use Rattle.read_lookup.specs.declared.Extent.{Extent}
-use Rattle.read_lookup.specs.Lookup.{extent, recorded_in, length_seen}
+use Rattle.read_lookup.specs.Lookup.{extent, recorded_in, length_seen, CountedRecords}
 use Rattle.read_fetch.specs.Fetch.{HandedWhole, bytes_read, marks_after, log_part}
 
 -- "the smaller of n and" [R-6.2] the transaction's length "less the offset" [R-6.2]: these places of the
@@ -49,7 +49,8 @@ pub record Readable (state files logs marks : List ℕ) (t d n : ℕ) (reader : 
   pub few : d < descriptor_count
   pub room : n ≤ length reader
   pub standing : standing_in (standing_at (transaction_of state t) d) ≡ true
-  pub handed : HandedWhole state files logs marks t (transaction_of state t).used (places_from state t d n)
+  pub counted : CountedRecords (journal_of state) t (transaction_of state t).used
+  pub handed : HandedWhole files logs marks (places_from state t d n)
 
 -- The marks and the reader's buffer after it gave these places.
 pub record Served (t : ℕ) (e : Extent) (state files logs marks reader : List ℕ)

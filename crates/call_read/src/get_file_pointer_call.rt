@@ -5,11 +5,10 @@ ghost use Rattle.spec.specs.Calls.{call};
 ghost use Rattle.spec.specs.Promises.{Follows, lent_mut, lent_shared};
 
 use crate::read_tests::admit_read;
-use admission::Gate;
-use read_settle::settle_call::Verdict;
+use admission::Sizes;
 use read_settle::settle_for_pointer;
 use state::layout::{State, is_begun, is_stale, standing_at};
-use state::outcomes::{Outcome, Refusal};
+use state::outcomes::{Answer, Outcome, Refusal};
 
 // Answers the offset of descriptor d in transaction t, and settles d where its place is unknown.
 pub fn get_file_pointer(
@@ -23,21 +22,14 @@ pub fn get_file_pointer(
 ) -> Outcome
     ensures { Follows (call (Call.on t (Op.get_file_pointer d))) (lent_mut state.old state.new) (lent_shared files.now) (lent_shared logs.now) (lent_shared marks.now) (lent_shared undo.now) result [] }
 {
-    let gate = admission::admit(state, files.len(), logs.len(), marks.len(), undo.len(), t);
-    if let Gate::Refused(r) = gate {
-        return Outcome::Refused(r);
-    }
+    admission::admit(state, Sizes::of(files, logs, marks, undo), t)?;
     if !is_begun(state, t) {
-        return Outcome::Refused(Refusal::NotOpen);
+        return Err(Refusal::NotOpen);
     }
-    let verdict = admit_read(is_stale(state, t), d, 0, 0);
-    if let Gate::Refused(r) = verdict {
-        return Outcome::Refused(r);
-    }
-    let v = settle_for_pointer(state, t, d);
-    let Verdict::Settled = v else {
-        return Outcome::Refused(Refusal::AppendPastEnd);
+    admit_read(is_stale(state, t), d, 0, 0)?;
+    let Ok(()) = settle_for_pointer(state, t, d) else {
+        return Err(Refusal::AppendPastEnd);
     };
     let standing = standing_at(state, t, d);
-    Outcome::Offset(standing.offset())
+    Ok(Answer::Offset(standing.offset()))
 }

@@ -7,19 +7,17 @@ ghost use Rattle.spec.specs.Promises.{Follows, lent_mut, lent_shared};
 ghost use Rattle.call_read.specs.ReadCall.{Movable, MovedOn, Readable, GivesRead};
 
 use crate::read_tests::admit_read;
-use admission::Gate;
+use admission::Sizes;
 use buffers::bit_sets;
-use limits::{over, smaller, wide};
 use read_fetch::copy_bytes;
-use read_lookup::{Extent, length_for, own_end};
-use read_settle::settle_call::Verdict;
+use read_lookup::{Extent, Records, length_for};
 use read_settle::settle_for_read;
 use state::Descriptor;
 use state::layout::{
     State, file_at, is_begun, is_stale, lengthmarks_at, put_descriptor, put_lengthmarks,
     standing_at, used_at,
 };
-use state::outcomes::{Outcome, Refusal};
+use state::outcomes::{Answer, Outcome, Refusal};
 
 // A Read of n bytes gives the smaller of n and the transaction's length less the offset: these places, from
 // `place` on, where the file ends at `end`.
@@ -29,7 +27,7 @@ fn places_given(file: u16, place: usize, n: usize, end: usize) -> Extent
     Extent {
         file,
         place,
-        length: smaller(n, over(end, place)),
+        length: n.min(end.saturating_sub(place)),
     }
 }
 
@@ -52,7 +50,7 @@ fn put_read(state: &mut State, t: usize, d: usize, extent: Extent, n: usize)
     );
     if extent.length < n {
         let sighted = lengthmarks_at(state, t);
-        put_lengthmarks(state, t, bit_sets::added(sighted, wide(extent.file)));
+        put_lengthmarks(state, t, bit_sets::added(sighted, usize::from(extent.file)));
     }
 }
 
@@ -72,12 +70,13 @@ fn read_settled<'a>(
 {
     let used = used_at(state, t);
     let z = standing_at(state, t, d);
-    let place = wide(z.offset());
+    let place = usize::from(z.offset());
     let file = file_at(state, d);
-    let own = own_end(state, t, used, file);
+    let records = Records { state, t, used };
+    let own = records.own_end(file);
     let end = length_for(state, file, own);
     let extent = places_given(file, place, n, end);
-    copy_bytes(state, files, logs, marks, t, used, extent, own, reader);
+    copy_bytes(&records, files, logs, marks, extent, own, reader);
     put_read(state, t, d, extent, n);
     extent.length as u16
 }
@@ -99,20 +98,13 @@ pub fn read<'a>(
     ensures { Follows (call (Call.on t (Op.read d n reader.old)))
         (lent_mut state.old state.new) (lent_shared files.now) (lent_shared logs.now) (lent_mut marks.old marks.new) (lent_shared undo.now) result reader.new }
 {
-    let gate = admission::admit(state, files.len(), logs.len(), marks.len(), undo.len(), t);
-    if let Gate::Refused(r) = gate {
-        return Outcome::Refused(r);
-    }
+    admission::admit(state, Sizes::of(files, logs, marks, undo), t)?;
     if !is_begun(state, t) {
-        return Outcome::Refused(Refusal::NotOpen);
+        return Err(Refusal::NotOpen);
     }
-    let verdict = admit_read(is_stale(state, t), d, n, reader.len());
-    if let Gate::Refused(r) = verdict {
-        return Outcome::Refused(r);
-    }
-    let v = settle_for_read(state, t, d);
-    let Verdict::Settled = v else {
-        return Outcome::Refused(Refusal::AppendPastEnd);
+    admit_read(is_stale(state, t), d, n, reader.len())?;
+    let Ok(()) = settle_for_read(state, t, d) else {
+        return Err(Refusal::AppendPastEnd);
     };
-    Outcome::Given(read_settled(state, files, logs, marks, t, d, n, reader))
+    Ok(Answer::Given(read_settled(state, files, logs, marks, t, d, n, reader)))
 }

@@ -4,24 +4,23 @@ ghost use Rattle.limits.specs.Limits.{last_descriptor};
 ghost use Rattle.admission.specs.Admission.{gate_number};
 ghost use Rattle.admission.specs.FirstRefusal.{unless};
 
-use admission::Gate;
 use limits::LAST_DESCRIPTOR;
 use state::outcomes::Refusal;
 
 // Refusals 6, 18 and 7 of a call that looks through descriptor d at n bytes, the reader's buffer having room
 // for so many. GetFilePointer looks at none.
-pub fn admit_read(stale: bool, d: usize, n: usize, room: usize) -> Gate
+pub fn admit_read(stale: bool, d: usize, n: usize, room: usize) -> Result<(), Refusal>
     ensures { gate_number result
         ≡ unless (leb d last_descriptor) 6 (unless (not stale) 18 (unless (leb n room) 7 0)) }
 {
     if LAST_DESCRIPTOR < d {
-        return Gate::Refused(Refusal::NoSuchTarget);
+        return Err(Refusal::NoSuchTarget);
     }
     if stale {
-        return Gate::Refused(Refusal::StaleReader);
+        return Err(Refusal::StaleReader);
     }
     if room < n {
-        return Gate::Refused(Refusal::ReaderTooShort);
+        return Err(Refusal::ReaderTooShort);
     }
-    Gate::Pass
+    Ok(())
 }

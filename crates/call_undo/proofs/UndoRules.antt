@@ -1,8 +1,9 @@
 -- The rule of undo after its tests.
+use Rattle.std.specs.declared.result.Result.TheVariants.{Ok}
 use mathlib.Core.{Bool.false, List.{List, []}, Path.{◌≡◌, refl, ap, ◌∙◌}}
 use lib.ListN.{length}
 use Prim.Native.Nat.{ℕ}
-use Rattle.state.specs.declared.{StoreMeaning.StoreMeaning, outcomes.Outcome.TheVariants.Done}
+use Rattle.state.specs.declared.{StoreMeaning.StoreMeaning, outcomes.Answer.TheVariants.{Done}}
 use Rattle.state.specs.{StoreMeaning.{with_valid, with_undo}, Layout.{state_length, store_of, journal_of}}
 use Rattle.state.specs.{Updates.{with_undo_valid_at, with_found_committed}, Outcomes.said}
 use Rattle.state.proofs.UndoLaws.{length-copied, store-with-valid, journal-with-valid, store-with-found-committed}
@@ -34,7 +35,7 @@ module _ (state files logs marks undo : List ℕ) (long : length state ≡ state
 
     pub undo-follows : undo-tests (machine_of state files logs marks undo) ≡ 0 → (bytes : List ℕ)
         → bytes ≡ restored (landed_on (store_of state) (journal_of state)) undo files → Meets (call undo_commit (machine_of state
-        files logs marks undo)) Done (machine_of after bytes logs marks undo) [] × LeftAsFound Done state after
+        files logs marks undo)) (Ok Done) (machine_of after bytes logs marks undo) [] × LeftAsFound (Ok Done) state after
     unfolding call undo_turn undone answer_with said
     undo-follows passes bytes e = let m = machine_of state files logs marks undo in (
       rw (passing-on (undo-tests m) [] m (undo_turn m) passes) (record

@@ -10,7 +10,6 @@ ghost use Rattle.call_undo.specs.LandedWrites.{landed_as};
 
 use buffers::parts;
 use commit_apply::writes::LandedWrite;
-use limits::wide;
 use state::journal::{LAST_GRANT, record_at};
 use state::layout::{State, file_at, undo_used};
 
@@ -24,9 +23,9 @@ fn landed_at(state: &State, k: usize) -> LandedWrite
     let w = record_at(state, LAST_GRANT, k);
     let p = w.place;
     LandedWrite {
-        file: wide(file_at(state, wide(w.descriptor))),
-        place: wide(p.place_number()),
-        length: wide(w.length),
+        file: usize::from(file_at(state, usize::from(w.descriptor))),
+        place: usize::from(p.place_number()),
+        length: usize::from(w.length),
     }
 }
 
@@ -41,10 +40,8 @@ pub fn restore_bytes(state: &State, files: &mut [u8], undo: &[u8])
         files.old }
 {
     let used = undo_used(state);
-    let mut end = wide(used.bytes);
-    let mut k = used.records;
-    while k > 0 {
-        k -= 1;
+    let mut end = usize::from(used.bytes);
+    for k in (0..used.records).rev() {
         let w = landed_at(state, k);
         let f = w.file;
         let place = w.place;

@@ -5,9 +5,9 @@ ghost use Rattle.spec.specs.Calls.{call};
 ghost use Rattle.spec.specs.Promises.{Follows, lent_mut, lent_shared};
 
 use crate::restore::restore_bytes;
-use admission::Gate;
+use admission::Sizes;
 use state::layout::{State, put_found, put_undo_valid};
-use state::outcomes::Outcome;
+use state::outcomes::{Answer, Outcome};
 
 // Undoes the last grant: files, committed offsets and committed lengths are again as that grant found them,
 // and there is no grant to undo. Journal, logs, marks, windows and the undo log stay. Refusals 1 and 2, then
@@ -21,12 +21,9 @@ pub fn undo_commit(
 ) -> Outcome
     ensures { Follows (call Call.undo_commit) (lent_mut state.old state.new) (lent_mut files.old files.new) (lent_shared logs.now) (lent_shared marks.now) (lent_shared undo.now) result [] }
 {
-    let gate = admission::admit_undo(state, files.len(), logs.len(), marks.len(), undo.len());
-    if let Gate::Refused(r) = gate {
-        return Outcome::Refused(r);
-    }
+    admission::admit_undo(state, Sizes::of(files, logs, marks, undo))?;
     restore_bytes(state, files, undo);
     put_found(state);
     put_undo_valid(state, false);
-    Outcome::Done
+    Ok(Answer::Done)
 }

@@ -6,9 +6,9 @@ ghost use Rattle.spec.specs.Messages.{Call};
 ghost use Rattle.spec.specs.Calls.{call};
 ghost use Rattle.spec.specs.Promises.{Follows, lent_mut, lent_shared};
 
-use admission::Gate;
+use admission::Sizes;
 use state::layout::{State, put_window};
-use state::outcomes::Outcome;
+use state::outcomes::{Answer, Outcome};
 use windows::Window;
 
 // Sets the window of file f: from minute start on, before minute end. Refusals 1 and 2, then 6, then 22. It
@@ -25,23 +25,11 @@ pub fn set_window(
 ) -> Outcome
     ensures { Follows (call (Call.set_window f start end)) (lent_mut state.old state.new) (lent_shared files.now) (lent_shared logs.now) (lent_shared marks.now) (lent_shared undo.now) result [] }
 {
-    let gate = admission::admit_window(
-        state,
-        files.len(),
-        logs.len(),
-        marks.len(),
-        undo.len(),
-        f,
-        start,
-        end,
-    );
-    if let Gate::Refused(r) = gate {
-        return Outcome::Refused(r);
-    }
+    admission::admit_window(state, Sizes::of(files, logs, marks, undo), f, start, end)?;
     let w = Window {
         start: start as u16,
         end: end as u16,
     };
     put_window(state, f, w);
-    Outcome::Done
+    Ok(Answer::Done)
 }

@@ -1,4 +1,5 @@
 -- The rule of Seek after each of its tests.
+use Rattle.std.specs.declared.result.Result.TheVariants.{Ok}
 use mathlib.Core.{Bool.true, List.{List, []}, Path.{◌≡◌, refl, sym, ap, ap₂, ◌∙◌}}
 use borrow.Author.Tests.{le-leb, lt-leb}
 use lib.{Dec.leb, ListN.{set, length}}
@@ -8,7 +9,7 @@ use Rattle.limits.specs.Limits.{file_bytes, last_descriptor}
 use Rattle.state.specs.StoreMeaning.{transaction, standing_at, with_descriptors, with_transaction}
 use Rattle.state.specs.{Layout.{transaction_of, store_of, journal_of, state_length}, Updates.{StandingFits, with_descriptor_at}}
 use Rattle.state.proofs.LayoutLaws.{length-journal, transaction-of, store-with-descriptor, journal-with-descriptor}
-use Rattle.state.specs.{Outcomes.{done_answer, said}, declared.{outcomes.Outcome.TheVariants.Done, Descriptor.Descriptor}}
+use Rattle.state.specs.{Outcomes.{done_answer, said}, declared.{outcomes.Answer.TheVariants.{Done}, Descriptor.Descriptor}}
 use Rattle.state.specs.declared.{Transaction.Transaction, StoreMeaning.StoreMeaning}
 use Rattle.standings.specs.{declared.Standing.Standing, Table.after_seek}
 use Rattle.admission.specs.Admission.{admission}
@@ -35,7 +36,7 @@ module _ (t d v : ℕ) (m : Machine) (passes : admission (sizes m) m.store m.jou
       transaction m.store t in
       let after = with_transaction t
       (with_descriptors (set x.descriptors d (record { standing = after_seek v (standing_at x d); dirty = true })) x)
-      m.store in Meets (call (on t (seek d v)) m) Done (with_store after m) []
+      m.store in Meets (call (on t (seek d v)) m) (Ok Done) (with_store after m) []
   unfolding step seek_step said txn_of logged
   seek-meets o h g = let z = after_seek v (standing_at (transaction m.store t) d) in
       let e = on-accepted t (seek d v) m passes (unfold refuses_stale is_read_call in refl)
@@ -70,7 +71,7 @@ module _ (t d v : ℕ) (state files logs marks undo : List ℕ) (long : length s
       → (transaction (store_of state) t).begun ≡ true
       → (z y : Standing) → z ≡ standing_at (transaction_of state t) d → y ≡ after_seek v z
       → (after : List ℕ) → after ≡ with_descriptor_at state t d (record { standing = y; dirty = true })
-      → Meets (call (on t (seek d v)) handed_over) Done (machine_of after files logs marks undo) [] × LeftAsFound Done state after
+      → Meets (call (on t (seek d v)) handed_over) (Ok Done) (machine_of after files logs marks undo) [] × LeftAsFound (Ok Done) state after
   seek-follows passes through begun z y is-z is_y after is-after = let small = through.small in
       let x = transaction (store_of state) t in let q : Descriptor = record { standing = y; dirty = true } in
       let o = open-here through begun in

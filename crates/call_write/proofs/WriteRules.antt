@@ -1,4 +1,5 @@
 -- The rule of Write after each of its tests.
+use Rattle.std.specs.declared.result.Result.TheVariants.{Ok}
 use mathlib.Core.{Bool.{Bool, true, false}, List.{List, []}, Path.{◌≡◌, refl, sym, ap, ap₂, ◌∙◌}}
 use borrow.Author.Tests.{le-leb, lt-leb, leb-true}
 use lib.{Dec.leb, ListN.{length, set}}
@@ -9,7 +10,7 @@ use Rattle.buffers.specs.Parts.{pasted}
 use Rattle.counters.specs.declared.Used.{Used}
 use Rattle.standings.specs.declared.{Place.Place, Standing.{Standing, TheVariants.{Untouched, Placed, Deferred, Moved, Known}}}
 use Rattle.standings.specs.Table.{place_number, after_write, write_place}
-use Rattle.state.specs.declared.{outcomes.{Refusal.Refusal, Outcome.TheVariants.Done}, Descriptor.Descriptor}
+use Rattle.state.specs.declared.{outcomes.{Refusal.Refusal, Answer.TheVariants.{Done}}, Descriptor.Descriptor}
 use Rattle.state.specs.declared.{Transaction.Transaction, StoreMeaning.StoreMeaning, journal.WriteRecord.WriteRecord}
 use Rattle.state.specs.{StoreMeaning.{transaction, standing_at, with_used, with_descriptors, with_transaction}, Journal.with_record_at}
 use Rattle.state.specs.Layout.{transaction_of, store_of, journal_of, state_length}
@@ -145,7 +146,7 @@ module _ (t d : ℕ) (bytes : List ℕ) (m : Machine) (passes : admission (sizes
       -- An accepted Write adds a record, moves the counters forward, sets the standing of d and makes d dirty, and puts its bytes
       -- in the log directly after the data used.
       write_meets : let z = standing_at (transaction m.store t) d in
-          Meets (call (on t (write d bytes)) m) Done
+          Meets (call (on t (write d bytes)) m) (Ok Done)
           (lent (store_written t d z used (length bytes) m.store) (journal_written t d z used (length bytes) m.journal)
           m.files (pasted m.logs (log_bytes * t + used.bytes) bytes) m.marks m.undo) []
       unfolding said logged written record_of txn_of store_written journal_written
@@ -198,7 +199,7 @@ module _ {t d : ℕ} {state files logs marks undo : List ℕ} {z : Standing} {us
   pub write-follows : (bytes : List ℕ) → WriteRoom (write_place z) used (length bytes) → (after filled : List ℕ)
       → filled ≡ pasted logs (log_bytes * t + used.bytes) bytes → store_of after ≡ store_written t d z used (length bytes)
       (store_of state) → journal_of after ≡ journal_written t d z used (length bytes) (journal_of state) → Meets (call
-      (on t (write d bytes)) handed_over) Done (machine_of after files filled marks undo) [] × LeftAsFound Done state after
+      (on t (write d bytes)) handed_over) (Ok Done) (machine_of after files filled marks undo) [] × LeftAsFound (Ok Done) state after
   write-follows bytes room after filled is-filled is_IsStore is-journal = (
     rw (is_IsStore, is-journal, is-filled, is-standing, is-used)
         (write_meets t d bytes handed_over a.passes open-here a.low (rw (is-standing, is-used) at room)),

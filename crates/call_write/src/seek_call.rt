@@ -4,11 +4,11 @@ ghost use Rattle.spec.specs.Messages.{Op, Call};
 ghost use Rattle.spec.specs.Calls.{call};
 ghost use Rattle.spec.specs.Promises.{Follows, lent_mut, lent_shared};
 
-use admission::Gate;
+use admission::Sizes;
 use limits::{FILE_BYTES, LAST_DESCRIPTOR};
 use state::Descriptor;
 use state::layout::{State, is_begun, put_descriptor, standing_at};
-use state::outcomes::{Outcome, Refusal};
+use state::outcomes::{Answer, Outcome, Refusal};
 
 // Sets the offset of descriptor d in transaction t to v, at most 4,096.
 pub fn seek(
@@ -23,18 +23,15 @@ pub fn seek(
 ) -> Outcome
     ensures { Follows (call (Call.on t (Op.seek d v))) (lent_mut state.old state.new) (lent_shared files.now) (lent_shared logs.now) (lent_shared marks.now) (lent_shared undo.now) result [] }
 {
-    let gate = admission::admit(state, files.len(), logs.len(), marks.len(), undo.len(), t);
-    if let Gate::Refused(r) = gate {
-        return Outcome::Refused(r);
-    }
+    admission::admit(state, Sizes::of(files, logs, marks, undo), t)?;
     if !is_begun(state, t) {
-        return Outcome::Refused(Refusal::NotOpen);
+        return Err(Refusal::NotOpen);
     }
     if LAST_DESCRIPTOR < d {
-        return Outcome::Refused(Refusal::NoSuchTarget);
+        return Err(Refusal::NoSuchTarget);
     }
     if FILE_BYTES < v {
-        return Outcome::Refused(Refusal::SeekPastEnd);
+        return Err(Refusal::SeekPastEnd);
     }
     let standing = standing_at(state, t, d);
     let descriptor = Descriptor {
@@ -42,5 +39,5 @@ pub fn seek(
         dirty: true,
     };
     put_descriptor(state, t, d, descriptor);
-    Outcome::Done
+    Ok(Answer::Done)
 }

@@ -1,6 +1,6 @@
 -- The lengths that a commit raises, write record by write record, and as the rules set them.
 use mathlib.Core.{Bool.{Bool, true, false, cond}, List.List, Path.{◌≡◌, refl, sym, ap, ap₂, ◌∙◌}}
-use lib.{Dec.eqb, ListN.{length, get_or, set, length-set}, Seq.set-get_or}
+use lib.{Dec.eqb, ListN.{length, get_or, set, length-set}}
 use borrow.Author.Tests.{ltb-true, ltb-false, eq-eqb, ne_eqb}
 use native.Mathlib.{Numerals.add-one, Omega.arith}
 use Prim.Native.Nat.{ℕ, zero, suc, ◌+◌, ◌≤◌, ◌<◌, max}
@@ -73,16 +73,6 @@ module _ (filenumbers offsets journal : List ℕ) (t : ℕ) where
         other : (j : ℕ) → (j ≡ f → ⊥) → length_after (k + 1) j ≡ length_after k j
         other j ne = let e : end_in j k ≡ 0 = rw (ne_eqb (get_or filenumbers (write_record_at journal t k).descriptor 0) j
             (λ q. ne (sym q ∙ sym ef))) in let m = reach-more j k in omega arith
-
-    -- One that ends within its file's length raises none.
-    pub lengths-still : (k f end : ℕ) → f < file_count → f ≡ get_or filenumbers (write_record_at journal t k).descriptor 0
-        → end ≡ write_end (lands_at (get_or offsets (write_record_at journal t k).descriptor 0) (write_record_at journal t k).place)
-        (write_record_at journal t k).length
-        → end ≤ get_or (lengths_landed filenumbers offsets journal t lengths k) f 0
-        → lengths_landed filenumbers offsets journal t lengths k ≡ lengths_landed filenumbers offsets journal t lengths (k + 1)
-    lengths-still k f end h ef ee within =
-        sym (set-get_or (lengths_landed filenumbers offsets journal t lengths k) f 0)
-        ∙ landed-lengths-more k f end (get_or (lengths_landed filenumbers offsets journal t lengths k) f 0) h ef ee (omega arith)
 
 module _ (F : ℕ → ℕ) (v : Values) (ws : List Write) where
   lengths-filled : (lengths : List ℕ) → length lengths ≡ file_count → ((f : ℕ) → v (file_length f) ≡ get_or lengths f 0) → (n : ℕ)

@@ -1,20 +1,21 @@
 -- Commit's placing, and the offsets that it sets, descriptor by descriptor.
 use mathlib.Core.{Bool.{Bool, true, false, cond, not, ◌&&◌}, Logic.⊎_elim, List.{List, [], ◌∷◌}}
-use mathlib.Core.Path.{◌≡◌, refl, sym, ap, ap₂, ◌∙◌}
+use mathlib.Core.Path.{◌≡◌, refl, sym, ap, ◌∙◌}
 use lib.{Dec.leb, ListN.{length, get_or, set, length-set}, Seq.get_or-set_other}
 use borrow.Author.Tests.{le-leb, lt-leb, leb-true}
 use native.Mathlib.{Numerals.add-one, Omega.arith}
 use Prim.Native.Nat.{ℕ, zero, suc, ◌+◌, ◌-◌, ◌≤◌, ◌<◌}
-use Rattle.limits.specs.Limits.{file_bytes, descriptor_count}
+use Rattle.limits.specs.Limits.{file_bytes, descriptor_count, transaction_count}
 use Rattle.state.specs.declared.{StoreMeaning.StoreMeaning, Transaction.Transaction, Descriptor.Descriptor}
-use Rattle.state.specs.{StoreMeaning.{standing_at, dirty_at, no_descriptor, with_offsets}, Layout.{transaction_of, store_of, journal_of}}
-use Rattle.state.{specs.Updates.with_offset_at, proofs.LayoutLaws.{descriptor-of, store-with-offset, journal-with-offset}}
-use Rattle.buffers.proofs.{PartLaws.le-or-lt, TableLaws.get_d_tabulate}
+use Rattle.state.specs.{StoreMeaning.{transaction, standing_at, dirty_at, with_offsets}}
+use Rattle.state.specs.Layout.{descriptor_of, transaction_of, store_of, journal_of}
+use Rattle.state.{specs.Updates.with_offset_at, proofs.LayoutLaws.{descriptor-of, transaction-of, store-with-offset, journal-with-offset}}
+use Rattle.buffers.proofs.{PartLaws.le-or-lt}
 use Rattle.standings.specs.declared.{Standing.{Standing, TheVariants.{Untouched, Placed, Deferred, Moved, Known}}}
 use Rattle.standings.specs.Table.{advance, final_offset, may_wait, is_touched}
-use Rattle.admission.{specs.FirstRefusal.below, proofs.Laws.{below_at, below_all}}
+use Rattle.admission.{specs.FirstRefusal.below, proofs.Laws.{below_at}}
 use Rattle.spec.specs.{Items.offset, Commits.{sets_offset, offset_settings, fits}, Calls.{land_offset, land_offsets}}
-use Rattle.commit_apply.specs.Apply.{offsets_only, descriptors_only, places_fit, setting_descriptor, setting_of, Means}
+use Rattle.commit_apply.specs.Apply.{offsets_only, descriptors_only, places_fit, Means}
 use Rattle.commit_apply.proofs.Settings.{offsets-append}
 
 -- ---- placing
@@ -124,57 +125,16 @@ module _ (x : Transaction) (before state : List ℕ) (d : ℕ) (few : d < descri
       long = ap length e ∙ so.long;
     }
 
--- ---- the transaction read out for what it sets
+-- ---- the transaction, which no committed offset changes
 
-module _ (state : List ℕ) (t : ℕ) where
-  abbrev own : Transaction
-  own = transaction_of state t
+pub still-own : (before state offsets : List ℕ) (t : ℕ) → t < transaction_count
+    → store_of state ≡ with_offsets offsets (store_of before) → transaction_of state t ≡ transaction_of before t
+still-own before state offsets t l e = sym (transaction-of state t l)
+    ∙ ap (λ (s : StoreMeaning). transaction s t) e ∙ transaction-of before t l
 
-  abbrev sets : ℕ → Bool
-  sets d = sets_offset (descriptors_only own) d
-
-  setting-at : (d : ℕ) → d < descriptor_count → get_or (setting_of state t).descriptors d no_descriptor
-      ≡ cond (sets d) (get_or own.descriptors d no_descriptor) no_descriptor
-  unfolding setting_descriptor
-  setting-at d l = get_d_tabulate (setting_descriptor state t) 16 d no_descriptor l
-      ∙ ap (λ (q : Descriptor). cond (sets d) q no_descriptor) (sym (descriptor-of state t d l))
-
-  -- The offsets that it sets are the transaction's own.
-  sets-alike : (d : ℕ) → d < descriptor_count → sets_offset (descriptors_only (setting_of state t)) d ≡ sets d
-  unfolding sets_offset
-  sets-alike d l = ap (λ (q : Descriptor). q.dirty && is_touched q.standing) (setting-at d l)
-      ∙ pick (sets d) (get_or own.descriptors d no_descriptor) refl
-    where
-      pick : (b : Bool) (q : Descriptor) → b ≡ (q.dirty && is_touched q.standing)
-          → ((cond b q no_descriptor).dirty && is_touched (cond b q no_descriptor).standing) ≡ (q.dirty && is_touched q.standing)
-      pick true q e = refl
-      pick false q e = e
-
-  stands_alike : (d : ℕ) → d < descriptor_count → sets d ≡ true → standing_at (setting_of state t) d ≡ standing_at own d
-  stands_alike d l e = ap (λ (q : Descriptor). q.standing) (setting-at d l)
-      ∙ ap (λ (b : Bool). (cond b (get_or own.descriptors d no_descriptor) no_descriptor).standing) e
-
-  pub setting-sets : (offsets : List ℕ) (n : ℕ) → n ≤ descriptor_count
-      → offsets_set (setting_of state t) offsets n ≡ offsets_set own offsets n
-  setting-sets offsets zero l = offsets-none (setting_of state t) offsets ∙ sym (offsets-none own offsets)
-  setting-sets offsets (suc n) l = ap (offsets_set (setting_of state t) offsets) (sym (add-one n)) ∙ offsets-more
-      (setting_of state t) offsets n (sets n) (sets-alike n (omega arith)) ∙ pick (sets n) refl (setting-sets offsets n
-      (omega arith)) ∙ sym (offsets-more own offsets n (sets n) refl) ∙ ap (offsets_set own offsets) (add-one n)
-    where
-      pick : (b : Bool) → sets n ≡ b → offsets_set (setting_of state t) offsets n ≡ offsets_set own offsets n
-          → cond b (set (offsets_set (setting_of state t) offsets n) n (final_offset (get_or offsets n 0)
-          (standing_at (setting_of state t) n))) (offsets_set (setting_of state t) offsets n) ≡ cond b
-          (set (offsets_set own offsets n) n (final_offset (get_or offsets n 0) (standing_at own n))) (offsets_set own offsets n)
-      pick true e so = ap₂ (λ (os : List ℕ) (z : Standing). set os n (final_offset (get_or offsets n 0) z)) so
-          (stands_alike n (omega arith) e)
-      pick false e so = so
-
-  pub setting-fits : (s : StoreMeaning) → places_fit s own ≡ true → places_fit s (setting_of state t) ≡ true
-  setting-fits s e = sym (placed-all s (setting_of state t)) ∙ below_all (offset_fits_at s (setting_of state t)) 16
-      (λ d l. le-leb (get_or s.offsets d 0 + advance (standing_at (setting_of state t) d)) file_bytes
-      (rw (ap (λ (q : Descriptor). q.standing) (setting-at d l)) (pick d (sets d) (fits-at s own e d l))))
-    where
-      pick : (d : ℕ) (b : Bool) → get_or s.offsets d 0 + advance (standing_at own d) ≤ file_bytes
-          → get_or s.offsets d 0 + advance (cond b (get_or own.descriptors d no_descriptor) no_descriptor).standing ≤ file_bytes
-      pick d true h = h
-      pick d false h = omega arith
+-- What is tested of a descriptor is whether a commit sets its offset.
+pub sets-own : (state : List ℕ) (t d : ℕ) → d < descriptor_count → (b : Bool)
+    → b ≡ ((descriptor_of state t d).dirty && is_touched (descriptor_of state t d).standing)
+    → sets_offset (descriptors_only (transaction_of state t)) d ≡ b
+unfolding sets_offset
+sets-own state t d l b e = ap (λ (q : Descriptor). q.dirty && is_touched q.standing) (descriptor-of state t d l) ∙ sym e

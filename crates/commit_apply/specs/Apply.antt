@@ -6,15 +6,14 @@ use Rattle.limits.specs.Limits.{record_count, log_bytes}
 use Rattle.buffers.specs.Parts.{tabulate}
 use Rattle.state.specs.declared.StoreMeaning.{StoreMeaning}
 use Rattle.state.specs.declared.Transaction.{Transaction}
-use Rattle.state.specs.declared.Descriptor.{Descriptor}
-use Rattle.state.specs.StoreMeaning.{standing_at, dirty_at, no_descriptor, with_descriptors, with_offsets}
+use Rattle.state.specs.StoreMeaning.{standing_at, dirty_at, with_offsets}
 use Rattle.state.specs.Journal.{write_record_at}
-use Rattle.state.specs.Layout.{descriptor_of, transaction_of, store_of, journal_of, state_length}
+use Rattle.state.specs.Layout.{store_of, journal_of, state_length}
 use Rattle.admission.specs.Admission.{lengths_before}
 use Rattle.spec.specs.Items.{byte, offset, file_length, Values}
 use Rattle.spec.specs.Transactions.{Txn}
 use Rattle.spec.specs.Reading.{write_end}
-use Rattle.spec.specs.Commits.{Setting, lands_at, byte_settings, offset_settings, sets_offset, fits}
+use Rattle.spec.specs.Commits.{Setting, lands_at, byte_settings, offset_settings, fits}
 use Rattle.spec.specs.Machine.{write_at}
 use Rattle.spec.specs.Calls.{land_offsets}
 use Rattle.spec.specs.Promises.{Lent}
@@ -38,16 +37,6 @@ abbrev pub with_offsets_of : Transaction → StoreMeaning → StoreMeaning
 with_offsets_of x s =
     with_offsets (land_offsets (offset_settings (offsets_only s.offsets) (descriptors_only x) descriptor_count)
     s.offsets) s
-
--- Descriptor d of transaction t where a commit sets its offset, and a blank one where not; and the
--- transaction with its sixteen descriptors read so.
-unfoldable pub setting_descriptor : List ℕ → ℕ → ℕ → Descriptor
-setting_descriptor state t d = cond (sets_offset (descriptors_only (transaction_of state t)) d)
-    (descriptor_of state t d) no_descriptor
-
-abbrev pub setting_of : List ℕ → ℕ → Transaction
-setting_of state t = with_descriptors (tabulate (setting_descriptor state t) descriptor_count)
-    (transaction_of state t)
 
 -- The bytes that the first n write records of transaction t set, in call order.
 unfoldable pub bytes_set : List ℕ → List ℕ → List ℕ → List ℕ → ℕ → ℕ → List Setting

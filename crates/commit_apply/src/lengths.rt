@@ -1,15 +1,14 @@
 // The committed lengths that a commit raises.
 ghost use Rattle.spec.specs.Promises.{lent_mut};
-ghost use Rattle.std.specs.Prelude.{◌≡◌, ◌+◌, ◌≤◌, length};
+ghost use Rattle.std.specs.Prelude.{◌≡◌, ◌+◌, ◌≤◌};
 ghost use Rattle.limits.specs.Limits.{file_bytes};
 ghost use Rattle.state.specs.StoreMeaning.{with_lengths};
-ghost use Rattle.state.specs.Layout.{store_of, state_length};
+ghost use Rattle.state.specs.Layout.{store_of};
 ghost use Rattle.spec.specs.Reading.{write_end};
 ghost use Rattle.commit_apply.specs.Apply.{CanLandIn, lengths_landed_in, Becomes};
 
 use crate::writes::landing_at;
 use counters::Used;
-use limits::wide;
 use state::FILES;
 use state::layout::{State, length_at, put_length};
 
@@ -29,10 +28,8 @@ fn lengths_at(state: &State) -> [u16; FILES]
     ensures { result ≡ (store_of state.now).lengths }
 {
     let mut out = [0u16; FILES];
-    let mut f = 0;
-    while f < FILES {
+    for f in 0..FILES {
         out[f] = length_at(state, f);
-        f += 1;
     }
     out
 }
@@ -42,29 +39,21 @@ pub fn lengths_after(state: &State, t: usize, used: Used) -> [u16; FILES]
     requires { CanLandIn state.now t used.records }
     ensures { result ≡ lengths_landed_in state.now t used.records }
 {
-    let records = used.records;
     let mut out = lengths_at(state);
-    let mut k = 0;
-    while k < records {
+    for k in 0..used.records {
         let w = landing_at(state, t, k);
         let f = w.file;
         let end = write_end(w.place, w.length);
-        if wide(out[f]) < end {
-            out[f] = end as u16;
-        }
-        k += 1;
+        out[f] = out[f].max(end as u16);
     }
     out
 }
 
 // Puts the committed lengths.
 pub fn put_lengths(state: &mut State, lengths: [u16; FILES])
-    requires { length state.old ≡ state_length }
     ensures { Becomes (lent_mut state.old state.new) (with_lengths lengths) }
 {
-    let mut f = 0;
-    while f < FILES {
+    for f in 0..FILES {
         put_length(state, f, lengths[f]);
-        f += 1;
     }
 }

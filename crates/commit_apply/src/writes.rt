@@ -9,7 +9,7 @@ ghost use Rattle.commit_apply.specs.SaveUndo.{old_bytes_in};
 
 use buffers::parts;
 use counters::Used;
-use limits::{LOG_BYTES, wide};
+use limits::LOG_BYTES;
 use standings::Place;
 use state::journal::record_at;
 use state::layout::{State, file_at, offset_at};
@@ -28,8 +28,8 @@ pub fn lands_at(place: Place, c: usize) -> usize
     ensures { result ≡ lands_at c place }
 {
     match place {
-        Place::At(p) => wide(p),
-        Place::After(a) => c + wide(a),
+        Place::At(p) => usize::from(p),
+        Place::After(a) => c + usize::from(a),
     }
 }
 
@@ -39,12 +39,12 @@ pub fn landing_at(state: &State, t: usize, k: usize) -> LandedWrite
     ensures { LandsAs state.now t k result }
 {
     let w = record_at(state, t, k);
-    let d = wide(w.descriptor);
+    let d = usize::from(w.descriptor);
     let p = w.place;
     LandedWrite {
-        file: wide(file_at(state, d)),
-        place: lands_at(p, wide(offset_at(state, d))),
-        length: wide(w.length),
+        file: usize::from(file_at(state, d)),
+        place: lands_at(p, usize::from(offset_at(state, d))),
+        length: usize::from(w.length),
     }
 }
 
@@ -67,11 +67,9 @@ pub fn land_writes(
         × (undo.new ≡ pasted undo.old 0
         (old_bytes_in state.now files.old logs.now t used.records)) }
 {
-    let records = used.records;
     let log = LOG_BYTES * t;
     let mut done = 0;
-    let mut k = 0;
-    while k < records {
+    for k in 0..used.records {
         let w = landing_at(state, t, k);
         let f = w.file;
         let place = w.place;
@@ -80,6 +78,5 @@ pub fn land_writes(
         parts::copy_to(undo, done, parts::part(file, place, size));
         parts::land(files, f, place, parts::part(logs, log + done, size));
         done += size;
-        k += 1;
     }
 }

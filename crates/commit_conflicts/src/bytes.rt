@@ -18,10 +18,8 @@ pub fn byte_sighters<'a>(state: &'a State, marks: &'a [u8], t: usize, used: Used
         → Sighters state.now marks.now watched
         (bytes_set_in state.now logs t used.records) result }
 {
-    let records = used.records;
     let mut found = 0u8;
-    let mut k = 0;
-    while k < records {
+    for k in 0..used.records {
         let landed = landing_at(state, t, k);
         let marked = markers(
             marks,
@@ -30,7 +28,6 @@ pub fn byte_sighters<'a>(state: &'a State, marks: &'a [u8], t: usize, used: Used
             landed.length,
         );
         found = joined(found, marked);
-        k += 1;
     }
     found
 }

@@ -6,7 +6,7 @@ ghost use Rattle.commit_apply.specs.Apply.{CanLandIn};
 ghost use Rattle.commit_conflicts.specs.Conflicts.{Sighters, knows_length, lengths_set_in, NoneSighted};
 
 use buffers::bit_sets;
-use buffers::transaction_sets::{contains, joined, with};
+use buffers::transaction_sets::{contains, joined, those};
 use commit_apply::lengths::lengths_after;
 use counters::Used;
 use state::layout::{State, length_at, lengthmarks_at};
@@ -17,27 +17,17 @@ fn sighted_by(state: &State, watched: u8, f: usize) -> u8
     requires { f < file_count }
     ensures { result ≡ bits_of (knows_length state.now watched f) transaction_count }
 {
-    let mut found = 0u8;
-    let mut u = 0;
-    while u < TRANSACTIONS {
-        if contains(watched, u) & bit_sets::has_bit(lengthmarks_at(state, u), f) {
-            found = with(found, u);
-        }
-        u += 1;
-    }
-    found
+    those(|u| contains(watched, u) & bit_sets::has_bit(lengthmarks_at(state, u), f))
 }
 
 // A quick test: if it is false, no watched transaction has sighted a length.
 fn any_sighted(state: &State, watched: u8) -> bool
     ensures { result ≡ false → NoneSighted state.now watched transaction_count }
 {
-    let mut u = 0;
-    while u < TRANSACTIONS {
+    for u in 0..TRANSACTIONS {
         if contains(watched, u) & (lengthmarks_at(state, u) != 0) {
             return true;
         }
-        u += 1;
     }
     false
 }
@@ -55,12 +45,10 @@ pub fn length_sighters(state: &State, t: usize, used: Used, watched: u8) -> u8
     }
     let after = lengths_after(state, t, used);
     let mut found = 0u8;
-    let mut f = 0;
-    while f < FILES {
+    for f in 0..FILES {
         if length_at(state, f) < after[f] {
             found = joined(found, sighted_by(state, watched, f));
         }
-        f += 1;
     }
     found
 }

@@ -14,26 +14,17 @@ ghost use Rattle.spec.specs.Promises.{machine_of};
 ghost use Rattle.commit_apply.specs.Apply.{CanLandIn};
 ghost use Rattle.commit_conflicts.specs.Conflicts.{is_watched, stale_by};
 
-use buffers::transaction_sets::{joined, with};
+use buffers::transaction_sets::{joined, those};
 use bytes::byte_sighters;
 use lengths::length_sighters;
 use offsets::offset_sighters;
-use state::TRANSACTIONS;
 use state::layout::{State, is_begun, is_stale, used_at};
 
 // The transactions that a commit of t can make stale: every other one that is open and not stale (R-8.1).
 fn watched(state: &State, t: usize) -> u8
     ensures { result ≡ bits_of (is_watched state.now t) transaction_count }
 {
-    let mut found = 0u8;
-    let mut u = 0;
-    while u < TRANSACTIONS {
-        if (u != t) & is_begun(state, u) & !is_stale(state, u) {
-            found = with(found, u);
-        }
-        u += 1;
-    }
-    found
+    those(|u| (u != t) & is_begun(state, u) & !is_stale(state, u))
 }
 
 // The transactions that a commit of t would make stale, granted or not, as a bit set. No byte of files, logs

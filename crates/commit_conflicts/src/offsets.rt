@@ -5,26 +5,18 @@ ghost use Rattle.buffers.specs.Bits.{bits_of};
 ghost use Rattle.spec.specs.Items.{Values};
 ghost use Rattle.commit_conflicts.specs.Conflicts.{Sighters, knows_offset, offsets_set_in};
 
-use buffers::transaction_sets::{contains, joined, with};
+use buffers::transaction_sets::{contains, joined, those};
+use state::DESCRIPTORS;
 use state::dirty::sets_offset_at;
 use state::layout::State;
 use state::readers::{any_dirty, is_known_at};
-use state::{DESCRIPTORS, TRANSACTIONS};
 
 // Those of the watched transactions that have settled the offset of descriptor d: it stands Known there.
 fn settled_by(state: &State, watched: u8, d: usize) -> u8
     requires { d < descriptor_count }
     ensures { result ≡ bits_of (knows_offset state.now watched d) transaction_count }
 {
-    let mut found = 0u8;
-    let mut u = 0;
-    while u < TRANSACTIONS {
-        if contains(watched, u) & is_known_at(state, u, d) {
-            found = with(found, u);
-        }
-        u += 1;
-    }
-    found
+    those(|u| contains(watched, u) & is_known_at(state, u, d))
 }
 
 // Those of the watched transactions that have settled an offset that a commit of transaction t would set.
@@ -38,12 +30,10 @@ pub fn offset_sighters(state: &State, t: usize, watched: u8) -> u8
         return 0;
     }
     let mut found = 0u8;
-    let mut d = 0;
-    while d < DESCRIPTORS {
+    for d in 0..DESCRIPTORS {
         if sets_offset_at(state, t, d) {
             found = joined(found, settled_by(state, watched, d));
         }
-        d += 1;
     }
     found
 }

@@ -5,9 +5,7 @@ ghost use Rattle.std.specs.Prelude.{List, ◌≡◌, ℕ, length};
 ghost use Rattle.limits.specs.Limits.{buffer_bytes};
 ghost use Rattle.commit_windows.specs.WindowCheck.{OpenIn, closed_files, has_byte_for, has_byte_for_closed};
 
-use buffers::transaction_sets::{contains, with};
-use limits::wide;
-use state::FILES;
+use buffers::transaction_sets::{contains, those};
 use state::journal::record_at;
 use state::layout::{State, file_at, used_at, window_at};
 use windows::is_open;
@@ -16,15 +14,7 @@ use windows::is_open;
 fn closed_files(state: &State, minute: u16) -> u8
     ensures { result ≡ closed_files state.now minute }
 {
-    let mut closed = 0u8;
-    let mut f = 0;
-    while f < FILES {
-        if !is_open(window_at(state, f), minute) {
-            closed = with(closed, f);
-        }
-        f += 1;
-    }
-    closed
+    those(|f| !is_open(window_at(state, f), minute))
 }
 
 // A write of transaction t, with a place or without, has a byte for a file of the octet.
@@ -32,15 +22,12 @@ fn has_byte_for(state: &State, t: usize, octet: u8) -> bool
     requires { OpenIn state.now t }
     ensures { result ≡ has_byte_for state.now t octet }
 {
-    let used = used_at(state, t);
-    let mut k = 0;
-    while k < used.records {
+    for k in 0..used_at(state, t).records {
         let write = record_at(state, t, k);
-        let f = wide(file_at(state, wide(write.descriptor)));
+        let f = usize::from(file_at(state, usize::from(write.descriptor)));
         if (0 < write.length) & contains(octet, f) {
             return true;
         }
-        k += 1;
     }
     false
 }

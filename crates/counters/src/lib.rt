@@ -17,12 +17,11 @@ pub fn append(u: &mut Used, n: u16)
     ensures records { u.new.records ≡ u.old.records + 1 }
     ensures bytes { u.new.bytes ≡ u.old.bytes + n }
 {
-    u.records = u.records + 1;
-    u.bytes = u.bytes + n;
+    u.records += 1;
+    u.bytes += n;
 }
 
-// The counters after a write of n bytes. It is the one lender of a `Used`; whoever calls it needs no walk by
-// hand.
+// The counters after a write of n bytes.
 pub fn appended(u: Used, n: u16) -> Used
     requires { (u.records ≤ record_count) × (u.bytes + n ≤ log_bytes) }
     ensures records { result.records ≡ u.records + 1 }

@@ -1,65 +1,44 @@
 // What the program prints, and the numbers that it takes out of outcomes.
 use dispatcher::ends::{Dispatched, End};
 use std::io;
-use store::Outcome;
-
-// The number of an outcome's refusal; 0 where it is none.
-pub fn refusal(o: Outcome) -> u8 {
-    if let Outcome::Refused(r) = o {
-        return r.number();
-    }
-    0
-}
+use store::{Answer, Outcome};
 
 // The offset that GetFilePointer answered; 0 where it was refused.
-pub fn print_offset(o: Outcome) -> u16 {
-    if let Outcome::Offset(n) = o {
-        return n;
+pub fn offset_in(o: Outcome) -> u16 {
+    match o {
+        Ok(Answer::Offset(n)) => n,
+        _ => 0,
     }
-    0
 }
 
-// The number of the refusal that ended a script; 0 where it was granted.
-fn failure(end: End) -> u8 {
-    if let End::Failed(r) = end {
-        return r.number();
+// Ends a line: with this text, or with the refusal's number.
+pub fn end_line(rt: &impl Print, text: &str, o: Outcome) -> io::Result<()> {
+    match o {
+        Ok(_) => println!(rt; "{text}"),
+        Err(r) => println!(rt; "refused with {}", r.number()),
     }
-    0
 }
 
-// Ends a line: with this text where r is 0, and else with the refusal r.
-pub fn end_line(rt: &impl Print, text: &str, r: u8) -> io::Result<()> {
-    if r == 0 {
-        return println!(rt; "{text}");
+// How a script ended, as an outcome.
+fn outcome_of(end: End) -> Outcome {
+    match end {
+        End::Unfinished | End::Granted => Ok(Answer::Done),
+        End::Failed(r) => Err(r),
     }
-    println!(rt; "refused with {r}")
-}
-
-// How script k ended.
-fn tell_end(rt: &impl Print, d: Dispatched, k: usize) -> io::Result<()> {
-    if k < 8 {
-        let e = d.ends[k];
-        let end = e.end;
-        print!(rt; "script {k}: ")?;
-        end_line(rt, "granted", failure(end))?;
-    }
-    Ok(())
 }
 
 // What the dispatcher answered; and where it ran, how the three scripts ended, and the number of commits.
 pub fn tell_ends(rt: &impl Print, d: Dispatched) -> io::Result<()> {
-    let o = d.outcome;
-    let r = refusal(o);
     print!(rt; "dispatcher: ")?;
-    end_line(rt, "done", r)?;
-    if r > 0 {
+    end_line(rt, "done", d.outcome)?;
+    if d.outcome.is_err() {
         return Ok(());
     }
-    tell_end(rt, d, 0)?;
-    tell_end(rt, d, 1)?;
-    tell_end(rt, d, 2)?;
-    let commits = d.commits;
-    println!(rt; "commits: {commits}")
+    for (k, ended) in d.ends.iter().take(3).enumerate() {
+        print!(rt; "script {k}: ")?;
+        end_line(rt, "granted", outcome_of(ended.end))?;
+    }
+    println!(rt; "commits: {}", d.commits)
 }
 
 // Where the log ends.

@@ -19,14 +19,12 @@ pub fn save_committed(state: &State, files: &Buffer, undo: &UndoLog) -> Saved
     ensures { EndsAll state.now result.state × (result.files ≡ files.now)
         × (result.undo ≡ undo.now) }
 {
-    let mut k = *state;
-    end_all(&mut k);
-    let f = *files;
-    let u = *undo;
+    let mut at_rest = *state;
+    end_all(&mut at_rest);
     Saved {
-        state: k,
-        files: f,
-        undo: u,
+        state: at_rest,
+        files: *files,
+        undo: *undo,
     }
 }
 

@@ -3,79 +3,67 @@
 // again.
 #![tactic(auto)]
 
-use std::io;
-use store::{BUFFER_BYTES, Buffer, FILE_BYTES, Outcome, STATE_LEN, State, UndoLog};
+use std::{fmt, io};
+use store::{Answer, Outcome, Store};
 
 // The minute of every commit. In a fresh store each file may change at any.
 const MINUTE: usize = 0;
 
-// Prints what a call answered.
-fn tell(rt: &impl Print, call: &str, o: Outcome) -> io::Result<()> {
-    match o {
-        Outcome::Done => println!(rt; "{call}: done"),
-        Outcome::Offset(n) => println!(rt; "{call}: offset {n}"),
-        Outcome::Given(n) => println!(rt; "{call}: bytes given {n}"),
-        Outcome::Granted(octet) => {
-            let stale = store::made_stale(octet);
-            println!(rt; "{call}: granted, made stale {stale}")
+// What a call answered, as it is printed.
+#[derive(Clone, Copy)]
+struct Told(Outcome);
+
+impl fmt::Display for Told {
+    fn fmt<W: fmt::Write>(&self, f: &mut fmt::Formatter<W>) -> fmt::Result {
+        match self.0 {
+            Ok(Answer::Done) => write!(f, "done"),
+            Ok(Answer::Offset(n)) => write!(f, "offset {n}"),
+            Ok(Answer::Given(n)) => write!(f, "bytes given {n}"),
+            Ok(Answer::Granted(octet)) => {
+                write!(f, "granted, made stale {}", store::made_stale(octet))
+            }
+            Ok(Answer::Pairs(n)) => write!(f, "pairs listed {n}"),
+            Ok(Answer::Ordered(n, _, _)) => write!(f, "grants in order {n}"),
+            Err(_) => write!(f, "refused"),
         }
-        Outcome::Pairs(n) => println!(rt; "{call}: pairs listed {n}"),
-        Outcome::Ordered(n, _, _) => println!(rt; "{call}: grants in order {n}"),
-        Outcome::Refused(_) => println!(rt; "{call}: refused"),
     }
 }
 
+// Prints what a call answered.
+fn tell(rt: &impl Print, call: &str, o: Outcome) -> io::Result<()> {
+    println!(rt; "{call}: {}", Told(o))
+}
+
+// A refused call, on which the next ones build, ends the program.
+fn needed(o: Outcome) -> io::Result<Answer> {
+    o.map_err(|_| io::Error::other("a call was refused"))
+}
+
 // Transaction 0 writes through descriptor 0 and transaction 1 reads through descriptor 1; then both commit.
-fn both(
-    rt: &impl Print,
-    state: &mut State,
-    files: &mut Buffer,
-    logs: &mut Buffer,
-    marks: &mut Buffer,
-    undo: &mut UndoLog,
-) -> io::Result<()> {
+fn both(rt: &impl Print, store: &mut Store) -> io::Result<()> {
     let mut reader = [0u8; 5];
-    store::begin(state, files, logs, marks, undo, 0);
-    store::begin(state, files, logs, marks, undo, 1);
-    let o = store::write(state, files, logs, marks, undo, 0, 0, b"hello");
-    tell(rt, "0 writes", o)?;
-    let o = store::read(state, files, logs, marks, undo, 1, 1, 5, &mut reader);
-    tell(rt, "1 reads", o)?;
-    let o = store::commit(state, files, logs, marks, undo, 0, MINUTE);
-    tell(rt, "commit 0", o)?;
-    let o = store::commit(state, files, logs, marks, undo, 1, MINUTE);
-    tell(rt, "commit 1", o)
+    needed(store.begin(0))?;
+    needed(store.begin(1))?;
+    tell(rt, "0 writes", store.write(0, 0, b"hello"))?;
+    tell(rt, "1 reads", store.read(1, 1, 5, &mut reader))?;
+    tell(rt, "commit 0", store.commit(0, MINUTE))?;
+    tell(rt, "commit 1", store.commit(1, MINUTE))
 }
 
 // Transaction 1 again.
-fn again(
-    rt: &impl Print,
-    state: &mut State,
-    files: &mut Buffer,
-    logs: &Buffer,
-    marks: &mut Buffer,
-    undo: &mut UndoLog,
-) -> io::Result<()> {
+fn again(rt: &impl Print, store: &mut Store) -> io::Result<()> {
     let mut reader = [0u8; 5];
-    store::begin(state, files, logs, marks, undo, 1);
-    let o = store::read(state, files, logs, marks, undo, 1, 1, 5, &mut reader);
-    tell(rt, "1 reads", o)?;
+    needed(store.begin(1))?;
+    tell(rt, "1 reads", store.read(1, 1, 5, &mut reader))?;
     rt.write_all(&reader)?;
     println!(rt; "")?;
-    let o = store::commit(state, files, logs, marks, undo, 1, MINUTE);
-    tell(rt, "commit 1", o)
+    tell(rt, "commit 1", store.commit(1, MINUTE))
 }
 
 // A fresh store whose descriptors all belong to file 0.
 fn main(rt: HostRuntime) -> io::Result<()> {
-    let mut state = [0u16; STATE_LEN];
-    let mut files = [0u8; BUFFER_BYTES];
-    let mut logs = [0u8; BUFFER_BYTES];
-    let mut marks = [0u8; BUFFER_BYTES];
-    let mut undo = [0u8; FILE_BYTES];
-    store::fresh(&mut state, &mut files, &logs, &mut marks, &undo, &[0u8; 16]);
-    both(
-        &rt, &mut state, &mut files, &mut logs, &mut marks, &mut undo,
-    )?;
-    again(&rt, &mut state, &mut files, &logs, &mut marks, &mut undo)
+    let mut store = Store::new();
+    needed(store.fresh(&[0u8; 16]))?;
+    both(&rt, &mut store)?;
+    again(&rt, &mut store)
 }

@@ -1,12 +1,13 @@
 -- The dispatcher after its tests: refused, or what its rounds left.
+use Rattle.std.specs.declared.result.Result.TheVariants.{Ok, Err}
 use mathlib.Core.{Bool.{Bool, true}, List.List, Path.{◌≡◌, refl, sym, ap, ◌∙◌, subst, subst⁻¹}}
 use lib.ListN.{length, replicate, get_or-replicate}
 use native.Mathlib.Omega.{arith}
 use Prim.Native.Nat.{ℕ, ◌+◌, ◌*◌, ◌≤◌}
 use Rattle.limits.specs.Limits.{script_count}
-use Rattle.state.specs.declared.outcomes.{Refusal.Refusal, Outcome.TheVariants.{Done, Refused}}
+use Rattle.state.specs.declared.outcomes.{Refusal.Refusal, Answer.TheVariants.{Done}}
 use Rattle.state.specs.Outcomes.{number, said, refused}
-use Rattle.admission.specs.{declared.Gate.{Gate, TheVariants.{Pass, Refused as GateRefused}}, FirstRefusal.{guarded, is_none}}
+use Rattle.admission.specs.{Admission.Gate, FirstRefusal.{guarded, is_none}}
 use Rattle.admission.{specs.Admission.{admission_of_dispatch, gate_number}, proofs.Laws.{number-suc, admitted-dispatch}}
 use Rattle.spec.specs.{Machine.{Machine, sizes}, Calls.calls_after}
 use Rattle.refinement.proofs.TurnLaws.{gate-number, gate-zero}
@@ -27,24 +28,24 @@ module _ (bytes : List ℕ) (minute : ℕ) (x : Scripts) (m : Machine) (buffer :
 
   -- What the tests before it say.
   module _ (g : Gate) (says : gate_number g ≡ gate) where
-    pub gate-scripts : g ≡ Pass → scripts_in (length bytes) x ≡ true
+    pub gate-scripts : g ≡ Ok tt → scripts_in (length bytes) x ≡ true
     gate-scripts e = (admitted-dispatch (sizes m) m.store m.journal (scripts_in (length bytes) x)
         (gate-zero g gate says e)).pass
 
-    refused-is : (r : Refusal) → g ≡ GateRefused r → dispatch bytes minute x m buffer ≡ not_started m buffer (number r)
+    refused-is : (r : Refusal) → g ≡ Err r → dispatch bytes minute x m buffer ≡ not_started m buffer (number r)
     unfolding dispatch
     refused-is r e = ap (λ (n : ℕ). guarded (not_started m buffer) (is_none n) n done) (sym (gate-number g gate says r e))
         ∙ ap (λ (b : Bool). guarded (not_started m buffer) b (number r) done) (ap is_none (number-suc r).1)
 
-    done-is : g ≡ Pass → dispatch bytes minute x m buffer ≡ done
+    done-is : g ≡ Ok tt → dispatch bytes minute x m buffer ≡ done
     done-is e = unfold dispatch in ap (λ (n : ℕ). guarded (not_started m buffer) (is_none n) n done) (gate-zero g gate says e)
 
     -- A refusal leaves everything.
-    pub refused-gives : (r : Refusal) → g ≡ GateRefused r → GivesDispatch (dispatch bytes minute x m buffer) x.count
-        (record { outcome = Refused r; ends = replicate script_count no_end; commits = 0 }) m buffer
+    pub refused-gives : (r : Refusal) → g ≡ Err r → GivesDispatch (dispatch bytes minute x m buffer) x.count
+        (record { outcome = Err r; ends = replicate script_count no_end; commits = 0 }) m buffer
     unfolding not_started end_of_script said said_of
     refused-gives r e = subst⁻¹ (λ (d : Given Machine). GivesDispatch d x.count
-        (record { outcome = Refused r; ends = replicate 8 no_end; commits = 0 }) m buffer) (refused-is r e) (record {
+        (record { outcome = Err r; ends = replicate 8 no_end; commits = 0 }) m buffer) (refused-is r e) (record {
           outcome = ap refused (number-suc r).1 ∙ sym (ap said_of (number-suc r).1);
           ends = λ k l. ap (λ (a : Ended). end_of_script a.end) (get_or-replicate 8 k no_end no_end l);
           commits = refl;
@@ -54,11 +55,11 @@ module _ (bytes : List ℕ) (minute : ℕ) (x : Scripts) (m : Machine) (buffer :
         })
 
     -- What the rounds left.
-    pub done-gives : g ≡ Pass → (m' : Machine) (buffer' : List ℕ) (es : List Ended) (n : ℕ) → WorkStands m work m' buffer'
+    pub done-gives : g ≡ Ok tt → (m' : Machine) (buffer' : List ℕ) (es : List Ended) (n : ℕ) → WorkStands m work m' buffer'
         es n → 2 * (dispatch bytes minute x m buffer).commits ≤ x.count * (x.count + 1) → GivesDispatch
-        (dispatch bytes minute x m buffer) x.count (record { outcome = Done; ends = es; commits = n }) m' buffer'
+        (dispatch bytes minute x m buffer) x.count (record { outcome = Ok Done; ends = es; commits = n }) m' buffer'
     done-gives e m' buffer' es n s few = unfold reported said said_of in let is = done-is e in
-        subst⁻¹ (λ (d : Given Machine). GivesDispatch d x.count (record { outcome = Done; ends = es; commits = n }) m'
+        subst⁻¹ (λ (d : Given Machine). GivesDispatch d x.count (record { outcome = Ok Done; ends = es; commits = n }) m'
         buffer') is (record {
           outcome = refl;
           ends = s.ends;

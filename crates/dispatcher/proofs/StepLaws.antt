@@ -1,4 +1,10 @@
 -- What the steps of the code come to: each law takes what stands before a step to what stands after it.
+use Rattle.state.specs.declared.outcomes.{Answer.{Answer, TheVariants.{Done, Offset, Given, Granted, Pairs, Ordered}}, Refusal.TheVariants.{BufferLength, RecordRange, NoSuchTransaction, NotOpen, AlreadyOpen, NoSuchTarget}}
+use Rattle.state.specs.declared.outcomes.Refusal.TheVariants.{ReaderTooShort, SeekPastEnd, WritePastEnd, RecordsFull, LogFull}
+use Rattle.state.specs.declared.outcomes.Refusal.TheVariants.{AppendPastEnd, Stale, NoSuchFile, NoPlaceYet, ListTooLong, BadLine}
+use Rattle.state.specs.declared.outcomes.Refusal.TheVariants.{StaleReader, NotAtRest, ScriptRange, FileClosed, NoSuchMinute}
+use Rattle.state.specs.declared.outcomes.Refusal.TheVariants.{StillOpen, NoGrant, NotReady, BadList, BadBudget}
+use Rattle.std.specs.declared.result.Result.TheVariants.{Ok, Err}
 use mathlib.Core.{Bool.{Bool, true, false, cond, not, ◌&&◌}, List.{List, [], ◌∷◌, ◌++◌}}
 use mathlib.Core.Path.{◌≡◌, refl, sym, ap, ◌∙◌, subst, subst⁻¹}
 use borrow.Author.Tests.{eqb-true, eqb-false, ne_eqb, not-true}
@@ -6,11 +12,11 @@ use lib.{Dec.{eqb, ltb}, ListN.{set, length-set, replicate, get_or-replicate}, S
 use native.Mathlib.{Numerals.add-one, Omega.arith}
 use Prim.Native.Nat.{ℕ, zero, suc, ◌+◌, ◌-◌, ◌≤◌, ◌<◌}
 use Rattle.limits.specs.Limits.{script_count}
-use Rattle.state.specs.{declared.outcomes.{Refusal.Refusal, Outcome.Outcome}, Outcomes.{number, said}}
-use Rattle.admission.specs.{declared.Gate.{Gate, TheVariants.{Pass, Refused}}, FirstRefusal.below, Admission.gate_number}
+use Rattle.state.specs.{declared.outcomes.Refusal.Refusal, Outcomes.{Outcome, number, said}}
+use Rattle.admission.specs.{Admission.{Gate, gate_number}, FirstRefusal.below}
 use Rattle.admission.proofs.Laws.{number-suc, below_at}
 use Rattle.requests.specs.{declared.Request.Request, Requests.call_of, Performing.{Unanswered, Performs}}
-use Rattle.spec.specs.{Messages.{Call, begin, on, commit, abort, Reply, buffer_of, buffer_of_call, after_all}, Transactions.put}
+use Rattle.spec.specs.{Messages.{refusal_of, Call, begin, on, commit, abort, Reply, buffer_of, buffer_of_call, after_all}, Transactions.put}
 use Rattle.spec.{specs.{Machine.Machine, Calls.{call, calls_after}, Promises.Meets}, proofs.Abstract.Rerun.put_same}
 use Rattle.spec.proofs.Abstract.Lists.{put_other}
 use Rattle.spec_dispatch.specs.Rounds.{ScriptCall, seeks, writes, asks, reads, Scripts, passed, goes_on, Work, nothing_done}
@@ -84,11 +90,21 @@ stands-failed m₀ w m buffer es n s k r l m' e = stands-call m₀ (with_end k (
 
 -- ---- what a refusal comes to
 
+-- An answer is no refusal.
+pub accepted : (a : Answer) → 0 ≡ refusal_in (said (Ok a))
+unfolding said refusal_in refusal_of
+accepted Done = refl
+accepted (Offset n) = refl
+accepted (Given n) = refl
+accepted (Granted n) = refl
+accepted (Pairs n) = refl
+accepted (Ordered a b n) = refl
+
 module _ (k : ℕ) (w : Work) (g : Gate) where
-  pub answered-passes : g ≡ Pass → or_failing k (gate_number g) w ≡ w
+  pub answered-passes : g ≡ Ok tt → or_failing k (gate_number g) w ≡ w
   answered-passes e = unfold or_failing gate_number in ap (λ (a : Gate). or_failing k (gate_number a) w) e
 
-  pub answered-fails : (r : Refusal) → g ≡ Refused r → or_failing k (gate_number g) w ≡ failing k (number r) w
+  pub answered-fails : (r : Refusal) → g ≡ Err r → or_failing k (gate_number g) w ≡ failing k (number r) w
   unfolding or_failing gate_number
   answered-fails r e = ap (λ (a : Gate). or_failing k (gate_number a) w) e ∙ pick (number r) (number-suc r).0 (number-suc r).1
     where
@@ -96,16 +112,49 @@ module _ (k : ℕ) (w : Work) (g : Gate) where
       pick zero j q = absurd (omega (arith, q))
       pick (suc n) j q = refl
 
-  pub decided-passes : g ≡ Pass → decided k (gate_number g) w ≡ with_end k passed w
-  decided-passes e = unfold decided gate_number in ap (λ (a : Gate). decided k (gate_number a) w) e
+-- 13 is Stale's number alone.
+pub stale-is : (r : Refusal) → number r ≡ 13 → r ≡ Stale
+stale-is BufferLength e = absurd (omega (arith, e))
+stale-is RecordRange e = absurd (omega (arith, e))
+stale-is NoSuchTransaction e = absurd (omega (arith, e))
+stale-is NotOpen e = absurd (omega (arith, e))
+stale-is AlreadyOpen e = absurd (omega (arith, e))
+stale-is NoSuchTarget e = absurd (omega (arith, e))
+stale-is ReaderTooShort e = absurd (omega (arith, e))
+stale-is SeekPastEnd e = absurd (omega (arith, e))
+stale-is WritePastEnd e = absurd (omega (arith, e))
+stale-is RecordsFull e = absurd (omega (arith, e))
+stale-is LogFull e = absurd (omega (arith, e))
+stale-is AppendPastEnd e = absurd (omega (arith, e))
+stale-is Stale e = refl
+stale-is NoSuchFile e = absurd (omega (arith, e))
+stale-is NoPlaceYet e = absurd (omega (arith, e))
+stale-is ListTooLong e = absurd (omega (arith, e))
+stale-is BadLine e = absurd (omega (arith, e))
+stale-is StaleReader e = absurd (omega (arith, e))
+stale-is NotAtRest e = absurd (omega (arith, e))
+stale-is ScriptRange e = absurd (omega (arith, e))
+stale-is FileClosed e = absurd (omega (arith, e))
+stale-is NoSuchMinute e = absurd (omega (arith, e))
+stale-is StillOpen e = absurd (omega (arith, e))
+stale-is NoGrant e = absurd (omega (arith, e))
+stale-is NotReady e = absurd (omega (arith, e))
+stale-is BadList e = absurd (omega (arith, e))
+stale-is BadBudget e = absurd (omega (arith, e))
 
-  pub decided-stale : (r : Refusal) → g ≡ Refused r → number r ≡ 13 → decided k (gate_number g) w ≡ w
-  unfolding decided gate_number
-  decided-stale r e h = ap (λ (a : Gate). decided k (gate_number a) w) e ∙ ap (λ (n : ℕ). decided k n w) h
+module _ (k : ℕ) (w : Work) (o : Outcome) where
+  pub decided-passes : (a : Answer) → o ≡ Ok a → decided k (refusal_in (said o)) w ≡ with_end k passed w
+  decided-passes a e = unfold decided in ap (λ (p : Outcome). decided k (refusal_in (said p)) w) e
+      ∙ ap (λ (n : ℕ). decided k n w) (sym (accepted a))
 
-  pub decided-fails : (r : Refusal) → g ≡ Refused r → (number r ≡ 13 → ⊥) → decided k (gate_number g) w ≡ failing k (number r) w
-  unfolding decided gate_number
-  decided-fails r e h = ap (λ (a : Gate). decided k (gate_number a) w) e ∙ pick (number r) (number-suc r).0 (number-suc r).1 h
+  pub decided-stale : o ≡ Err Stale → decided k (refusal_in (said o)) w ≡ w
+  unfolding decided said refusal_in refusal_of
+  decided-stale e = ap (λ (p : Outcome). decided k (refusal_in (said p)) w) e
+
+  pub decided-fails : (r : Refusal) → o ≡ Err r → (number r ≡ 13 → ⊥) → decided k (refusal_in (said o)) w ≡ failing k (number r) w
+  unfolding decided said refusal_in refusal_of
+  decided-fails r e h = ap (λ (p : Outcome). decided k (refusal_in (said p)) w) e
+      ∙ pick (number r) (number-suc r).0 (number-suc r).1 h
     where
       pick : (n j : ℕ) → n ≡ suc j → (n ≡ 13 → ⊥) → decided k n w ≡ failing k n w
       pick zero j q f = absurd (omega (arith, q))
@@ -171,18 +220,18 @@ module _ (bytes : List ℕ) (minute : ℕ) (x : Scripts) (k : ℕ) (line : Scrip
       ap (λ (a : ℕ). or_failing k a after) (sym (h.refusal ∙ ap (λ (b : List ℕ). refusal_in (call (on k (op_of bytes b line))
       m).reply.answer) s.reader ∙ ap (λ (r : Reply). refusal_in r.answer) (replied m₀ w m buffer es n s made)))
 
-  pub turn-done : (due : Bool) → due ≡ true → (m₂ : Machine) (es₂ : List Ended)
+  pub turn-done : (m₂ : Machine) (es₂ : List Ended)
       → ((v : Work) → WorkStands m₀ v m₁ buffer₁ es n → WorkStands m₀ (or_failing k (gate_number g) v) m₂ buffer₁ es₂ n)
-      → WorkStands m₀ (cond due (perform (store_reply m₀) bytes minute x k line w) w) m₂ buffer₁ es₂ n
-  turn-done due e m₂ es₂ f = stands-as m₀ (cond due (perform (store_reply m₀) bytes minute x k line w) w)
-      (or_failing k (gate_number g) after) m₂ buffer₁ es₂ n (chosen-step due _ w e ∙ performed) (f after after-stands)
+      → WorkStands m₀ (perform (store_reply m₀) bytes minute x k line w) m₂ buffer₁ es₂ n
+  turn-done m₂ es₂ f = stands-as m₀ (perform (store_reply m₀) bytes minute x k line w)
+      (or_failing k (gate_number g) after) m₂ buffer₁ es₂ n performed (f after after-stands)
 
 module _ (bytes : List ℕ) (minute : ℕ) (x : Scripts) (k : ℕ) (m₀ : Machine) (w : Work) where
   pub commit-over : goes_on (w.ends k) ≡ false → commit_one (store_reply m₀) bytes minute x k w ≡ w
   commit-over e = unfold commit_one in passed_over (goes_on (w.ends k)) _ w e
 
   module _ (m : Machine) (buffer : List ℕ) (es : List Ended) (n : ℕ) (s : WorkStands m₀ w m buffer es n) (o : Outcome)
-      (m₁ : Machine) (h : Meets (call (commit k minute) m) o m₁ []) (g : Gate) (r : gate_number g ≡ refusal_in (said o)) where
+      (m₁ : Machine) (h : Meets (call (commit k minute) m) o m₁ []) where
     abbrev counted : Work
     counted = with_commit (with_call (commit k minute) w)
 
@@ -195,15 +244,15 @@ module _ (bytes : List ℕ) (minute : ℕ) (x : Scripts) (k : ℕ) (m₀ : Machi
       commits = ap (λ (a : ℕ). a + 1) s.commits;
     }
 
-    committed : goes_on (w.ends k) ≡ true → commit_one (store_reply m₀) bytes minute x k w ≡ decided k (gate_number g) counted
+    committed : goes_on (w.ends k) ≡ true → commit_one (store_reply m₀) bytes minute x k w ≡ decided k (refusal_in (said o)) counted
     unfolding commit_one
-    committed e = chosen-step (goes_on (w.ends k)) _ w e ∙ ap (λ (a : ℕ). decided k a counted) (sym (r ∙ ap refusal_in
+    committed e = chosen-step (goes_on (w.ends k)) _ w e ∙ ap (λ (a : ℕ). decided k a counted) (sym (ap refusal_in
         h.outcome ∙ ap (λ (a : Reply). refusal_in a.answer) (replied m₀ w m buffer es n s (commit k minute))))
 
     pub commit-done : goes_on (w.ends k) ≡ true → (m₂ : Machine) (es₂ : List Ended)
-        → ((v : Work) → WorkStands m₀ v m₁ buffer es (n + 1) → WorkStands m₀ (decided k (gate_number g) v) m₂ buffer es₂ (n + 1))
+        → ((v : Work) → WorkStands m₀ v m₁ buffer es (n + 1) → WorkStands m₀ (decided k (refusal_in (said o)) v) m₂ buffer es₂ (n + 1))
         → WorkStands m₀ (commit_one (store_reply m₀) bytes minute x k w) m₂ buffer es₂ (n + 1)
-    commit-done e m₂ es₂ f = stands-as m₀ (commit_one (store_reply m₀) bytes minute x k w) (decided k (gate_number g) counted)
+    commit-done e m₂ es₂ f = stands-as m₀ (commit_one (store_reply m₀) bytes minute x k w) (decided k (refusal_in (said o)) counted)
         m₂ buffer es₂ (n + 1) (committed e) (f counted counted-stands)
 
 -- ---- loops: one more turn of each

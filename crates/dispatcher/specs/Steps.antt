@@ -2,7 +2,7 @@
 -- says.
 use Rattle.std.specs.Prelude.{List, ◌≡◌, length, ℕ, ◌<◌}
 use Rattle.limits.specs.Limits.{script_count}
-use Rattle.admission.specs.declared.Gate.{Gate}
+use Rattle.admission.specs.Admission.{Gate}
 use Rattle.admission.specs.Admission.{gate_number}
 use Rattle.requests.specs.declared.Request.{Request}
 use Rattle.requests.specs.declared.Request.TheVariants.{Seek, Write, GetFilePointer, Read}

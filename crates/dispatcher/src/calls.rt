@@ -8,13 +8,13 @@ ghost use Rattle.dispatcher.specs.Types.{script_call_of};
 ghost use Rattle.dispatcher.specs.Steps.{request_of, bytes_of_script_call, Makes};
 
 use crate::scripts::ScriptCall;
-use admission::Gate;
 use buffers::parts::part;
 use requests::Request;
 use state::layout::State;
-use state::outcomes::Outcome;
+use state::outcomes::Refusal;
 
 // The request of script k's call.
+#[tactic(auto, unfolding(crate::specs::Steps::request_of, crate::specs::Types::script_call_of))]
 fn request_of(k: usize, call: ScriptCall) -> Request
     ensures { result ≡ request_of k (script_call_of call) }
 {
@@ -27,30 +27,14 @@ fn request_of(k: usize, call: ScriptCall) -> Request
 }
 
 // The bytes lent beside it: a Write's part of the data buffer.
+#[tactic(auto, unfolding(crate::specs::Steps::bytes_of_script_call, crate::specs::Types::script_call_of, spec_dispatch::specs::Rounds::part_in))]
 fn bytes_of<'a>(call: ScriptCall, bytes: &'a [u8]) -> &'a [u8]
     requires { part_in (length bytes.now) (script_call_of call) ≡ true }
     ensures { result.now ≡ bytes_of_script_call (script_call_of call) bytes.now }
 {
     match call {
-        ScriptCall::Seek(_, _) => bytes,
         ScriptCall::Write(_, start, n) => part(bytes, start, n),
-        ScriptCall::GetFilePointer(_) => bytes,
-        ScriptCall::Read(_, _) => bytes,
-    }
-}
-
-// The refusal of an outcome.
-pub fn gate_of(o: Outcome) -> Gate
-    ensures { gate_number result ≡ refusal_in (said o) }
-{
-    match o {
-        Outcome::Done => Gate::Pass,
-        Outcome::Offset(_) => Gate::Pass,
-        Outcome::Given(_) => Gate::Pass,
-        Outcome::Granted(_) => Gate::Pass,
-        Outcome::Pairs(_) => Gate::Pass,
-        Outcome::Ordered(_, _, _) => Gate::Pass,
-        Outcome::Refused(r) => Gate::Refused(r),
+        ScriptCall::Seek(..) | ScriptCall::GetFilePointer(..) | ScriptCall::Read(..) => bytes,
     }
 }
 
@@ -65,7 +49,7 @@ pub fn make(
     call: ScriptCall,
     bytes: &[u8],
     reader: &mut [u8],
-) -> Gate
+) -> Result<(), Refusal>
     requires { part_in (length bytes.now) (script_call_of call) ≡ true }
     ensures { Makes k (script_call_of call) bytes.now
         (machine_of state.old files.old logs.old marks.old undo.old) reader.old result
@@ -73,6 +57,6 @@ pub fn make(
 {
     let q = request_of(k, call);
     let part = bytes_of(call, bytes);
-    let o = requests::perform(state, files, logs, marks, undo, q, part, reader);
-    gate_of(o)
+    requests::perform(state, files, logs, marks, undo, q, part, reader)?;
+    Ok(())
 }

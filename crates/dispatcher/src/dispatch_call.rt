@@ -10,36 +10,24 @@ ghost use Rattle.dispatcher.specs.Promise.{RunsScripts};
 use crate::ends::{Dispatched, End, Ended};
 use crate::rounds::run_rounds;
 use crate::scripts::{SCRIPTS, Scripts, scripts_in};
-use admission::{Gate, first_tests, none_begun};
+use admission::{Sizes, first_tests, none_begun};
 use state::layout::State;
-use state::outcomes::{Outcome, Refusal};
+use state::outcomes::{Answer, Outcome, Refusal};
 
-// Refusals 1, 2, 19 and 20. files, logs, marks and undo are the lengths of the lent buffers, n that of the
-// data buffer.
-fn admit(
-    state: &State,
-    files: usize,
-    logs: usize,
-    marks: usize,
-    undo: usize,
-    scripts: Scripts,
-    n: usize,
-) -> Gate
+// Refusals 1, 2, 19 and 20. The data buffer has n bytes.
+fn admit(state: &State, sizes: Sizes, scripts: Scripts, n: usize) -> Result<(), Refusal>
     ensures { gate_number result
-        ≡ admission_of_dispatch (sized files logs marks undo)
+        ≡ admission_of_dispatch sizes
         (store_of state.now) (journal_of state.now) (scripts_in n (scripts_of scripts)) }
 {
-    let g = first_tests(state, files, logs, marks, undo);
-    if let Gate::Refused(r) = g {
-        return Gate::Refused(r);
-    }
+    first_tests(state, sizes)?;
     if !none_begun(state) {
-        return Gate::Refused(Refusal::NotAtRest);
+        return Err(Refusal::NotAtRest);
     }
     if !scripts_in(scripts, n) {
-        return Gate::Refused(Refusal::ScriptRange);
+        return Err(Refusal::ScriptRange);
     }
-    Gate::Pass
+    Ok(())
 }
 
 // Runs the scripts, script k as transaction k, by rounds until each is over. A Write's bytes are a part of
@@ -59,19 +47,16 @@ pub fn dispatch(
 {
     let g = admit(
         state,
-        files.len(),
-        logs.len(),
-        marks.len(),
-        undo.len(),
+        Sizes::of(files, logs, marks, undo),
         scripts,
         bytes.len(),
     );
-    if let Gate::Refused(r) = g {
+    if let Err(r) = g {
         let e = Ended {
             end: End::Unfinished,
         };
         return Dispatched {
-            outcome: Outcome::Refused(r),
+            outcome: Err(r),
             ends: [e; SCRIPTS],
             commits: 0,
         };
@@ -81,8 +66,8 @@ pub fn dispatch(
     );
     let ends = p.ends;
     Dispatched {
-        outcome: Outcome::Done,
-        ends: ends,
+        outcome: Ok(Answer::Done),
+        ends,
         commits: p.commits,
     }
 }

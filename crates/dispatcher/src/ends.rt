@@ -2,7 +2,7 @@
 use crate::scripts::SCRIPTS;
 use state::outcomes::{Outcome, Refusal};
 
-// How a script stands: it goes on, was granted, or a refusal ended it.
+// How a script stands: it goes on, was granted, or a refusal ended it; plainer than an Option of a Result.
 #[derive(Clone, Copy)]
 pub enum End {
     Unfinished,
@@ -17,7 +17,8 @@ pub struct Ended {
 
 pub type Ends = [Ended; SCRIPTS];
 
-// What the dispatcher answers: plainly or a refusal, the end of each script, and the number of Commits made.
+// What the dispatcher answers: plainly or a refusal, the end of each script, and the number of Commits made. The
+// promise says ends and number with a refusal too (specs/Promise.antt), so it is no Result.
 #[derive(Clone, Copy)]
 pub struct Dispatched {
     pub outcome: Outcome,

@@ -2,24 +2,23 @@
 // and then commits them (R-13.3).
 ghost use Rattle.std.specs.Prelude.{List, ◌≡◌, true, cond, not, length, ℕ, ◌+◌, ◌*◌, ◌<◌, ◌≤◌};
 ghost use Rattle.limits.specs.Limits.{script_count, script_calls};
-ghost use Rattle.state.specs.Outcomes.{number};
+ghost use Rattle.state.specs.Outcomes.{number, said};
 ghost use Rattle.admission.specs.FirstRefusal.{below};
 ghost use Rattle.admission.specs.Admission.{gate_number};
 ghost use Rattle.spec.specs.Messages.{begin};
 ghost use Rattle.spec.specs.Promises.{lent_mut, lent_shared, machine_of};
 ghost use Rattle.spec_dispatch.specs.Rounds.{Scripts as SomeScripts, part_in, scripts_in, goes_on, with_call};
-ghost use Rattle.spec_dispatch.specs.Rounds.{failing, or_failing, decided};
-ghost use Rattle.spec_dispatch.specs.Rounds.{begins, perform, passes, commit_one, commit_all, round};
+ghost use Rattle.spec_dispatch.specs.Rounds.{failing, decided, refusal_in};
+ghost use Rattle.spec_dispatch.specs.Rounds.{begins, perform, turns, passes, commit_one, commit_all, round};
 ghost use Rattle.spec_dispatch.specs.Dispatch.{store_reply, work_on_store};
 ghost use Rattle.dispatcher.specs.Types.{script_call_of, scripts_of, end_at};
 ghost use Rattle.dispatcher.specs.Steps.{WorkStands, CarriesStep, Steps, StepsAside};
 
-use crate::calls::{gate_of, make};
+use crate::calls::make;
 use crate::ends::{End, Ended, Ends};
 use crate::scripts::{SCRIPT_CALLS, SCRIPTS, ScriptCall, Scripts};
-use admission::Gate;
 use state::layout::State;
-use state::outcomes::Refusal;
+use state::outcomes::{Outcome, Refusal};
 
 // The ends of the scripts, and the number of Commits made.
 #[derive(Clone, Copy)]
@@ -28,26 +27,14 @@ pub struct DispatchProgress {
     pub commits: usize,
 }
 
-// What a script has next: whether a call is due, and which.
-#[derive(Clone, Copy)]
-pub struct Next {
-    pub script: usize,
-    pub due: bool,
-    pub call: ScriptCall,
-}
-
 // Script k goes on.
+#[tactic(auto, unfolding(spec_dispatch::specs::Rounds::goes_on, crate::specs::Types::end_of_script))]
 fn goes_on(ends: Ends, k: usize) -> bool
     requires { k < script_count }
     ensures { result ≡ goes_on (end_at ends k) }
 {
     let e = ends[k];
-    let end = e.end;
-    match end {
-        End::Unfinished => true,
-        End::Granted => false,
-        End::Failed(_) => false,
-    }
+    matches!(e.end, End::Unfinished)
 }
 
 // Every script below n is over.
@@ -55,12 +42,10 @@ fn all_over(ends: Ends, n: usize) -> bool
     requires { n ≤ script_count }
     ensures { result ≡ below (λ k. not (goes_on (end_at ends k))) n }
 {
-    let mut k = 0;
-    while k < n {
+    for k in 0..n {
         if goes_on(ends, k) {
             return false;
         }
-        k += 1;
     }
     true
 }
@@ -79,32 +64,12 @@ fn fail(
     requires { k < script_count }
     ensures { StepsAside (λ m w. failing k (number r) w) (lent_mut state.old state.new) (lent_shared files.now) (lent_shared logs.now) (lent_mut marks.old marks.new) (lent_shared undo.now) ends result }
 {
-    store::abort(state, files, logs, marks, undo, k);
+    let _ = store::abort(state, files, logs, marks, undo, k);
     let mut out = ends;
     out[k] = Ended {
         end: End::Failed(r),
     };
     out
-}
-
-// After a call of script k: a refusal ends it.
-fn take_answer(
-    state: &mut State,
-    files: &[u8],
-    logs: &[u8],
-    marks: &mut [u8],
-    undo: &[u8],
-    ends: Ends,
-    k: usize,
-    g: Gate,
-) -> Ends
-    requires { k < script_count }
-    ensures { StepsAside (λ m w. or_failing k (gate_number g) w) (lent_mut state.old state.new) (lent_shared files.now) (lent_shared logs.now) (lent_mut marks.old marks.new) (lent_shared undo.now) ends result }
-{
-    if let Gate::Refused(r) = g {
-        return fail(state, files, logs, marks, undo, ends, k, r);
-    }
-    ends
 }
 
 // After the Commit of script k: it was granted, is stale and goes on, or another refusal ends it.
@@ -116,20 +81,24 @@ fn decide(
     undo: &[u8],
     ends: Ends,
     k: usize,
-    g: Gate,
+    o: Outcome,
 ) -> Ends
     requires { k < script_count }
-    ensures { StepsAside (λ m w. decided k (gate_number g) w) (lent_mut state.old state.new) (lent_shared files.now) (lent_shared logs.now) (lent_mut marks.old marks.new) (lent_shared undo.now) ends result }
+    ensures { StepsAside (λ m w. decided k (refusal_in (said o)) w) (lent_mut state.old state.new) (lent_shared files.now) (lent_shared logs.now) (lent_mut marks.old marks.new) (lent_shared undo.now) ends result }
 {
-    if let Gate::Refused(r) = g {
-        if r.number() == Refusal::Stale.number() {
-            return ends;
+    match o {
+        Ok(_) => {
+            let mut out = ends;
+            out[k] = Ended { end: End::Granted };
+            out
         }
-        return fail(state, files, logs, marks, undo, ends, k, r);
+        Err(r) => {
+            if r == Refusal::Stale {
+                return ends;
+            }
+            fail(state, files, logs, marks, undo, ends, k, r)
+        }
     }
-    let mut out = ends;
-    out[k] = Ended { end: End::Granted };
-    out
 }
 
 // Begins script k, if it goes on.
@@ -147,7 +116,7 @@ fn begin_one(
         (lent_mut state.old state.new) (lent_shared files.now) (lent_shared logs.now) (lent_mut marks.old marks.new) (lent_shared undo.now) ends ends }
 {
     if goes_on(ends, k) {
-        store::begin(state, files, logs, marks, undo, k);
+        let _ = store::begin(state, files, logs, marks, undo, k);
     }
 }
 
@@ -166,42 +135,66 @@ fn begin_all(
         → StepsAside (λ m. begins (store_reply m) bytes minute x count)
         (lent_mut state.old state.new) (lent_shared files.now) (lent_shared logs.now) (lent_mut marks.old marks.new) (lent_shared undo.now) ends ends }
 {
-    let mut k = 0;
-    while k < count {
+    for k in 0..count {
         begin_one(state, files, logs, marks, undo, ends, k);
-        k += 1;
     }
 }
 
-// Makes the next call of a script, if one is due.
+// Makes a call of script k: a refusal ends the script.
 fn take_turn(
     state: &mut State,
     files: &mut [u8],
     logs: &mut [u8],
     marks: &mut [u8],
     undo: &mut [u8],
-    t: Next,
+    k: usize,
+    call: ScriptCall,
     bytes: &[u8],
     reader: &mut [u8],
     ends: Ends,
 ) -> Ends
-    requires { (t.script < script_count)
-        × (t.due ≡ true → part_in (length bytes.now) (script_call_of t.call) ≡ true) }
+    requires { (k < script_count) × (part_in (length bytes.now) (script_call_of call) ≡ true) }
     ensures { (minute : ℕ) (x : SomeScripts)
-        → Steps (λ m w. cond t.due
-        (perform (store_reply m) bytes.now minute x t.script (script_call_of t.call) w) w)
+        → Steps (λ m w. perform (store_reply m) bytes.now minute x k (script_call_of call) w)
         (lent_mut state.old state.new) (lent_mut files.old files.new) (lent_mut logs.old logs.new) (lent_mut marks.old marks.new) (lent_mut undo.old undo.new) (lent_mut reader.old reader.new) ends result }
 {
-    if !t.due {
-        return ends;
+    match make(state, files, logs, marks, undo, k, call, bytes, reader) {
+        Ok(()) => ends,
+        Err(r) => fail(state, files, logs, marks, undo, ends, k, r),
     }
-    let k = t.script;
-    let call = t.call;
-    let g = make(state, files, logs, marks, undo, k, call, bytes, reader);
-    take_answer(state, files, logs, marks, undo, ends, k, g)
 }
 
-// The calls of a round: call i of each script k that has one and goes on, in order, for each i in turn.
+// Call i of each script that has one and goes on, in order.
+fn make_pass(
+    state: &mut State,
+    files: &mut [u8],
+    logs: &mut [u8],
+    marks: &mut [u8],
+    undo: &mut [u8],
+    scripts: Scripts,
+    i: usize,
+    bytes: &[u8],
+    reader: &mut [u8],
+    ends: Ends,
+) -> Ends
+    requires { (i < script_calls) × (scripts_in (length bytes.now) (scripts_of scripts) ≡ true) }
+    ensures { (minute : ℕ)
+        → Steps (λ m. turns (store_reply m) bytes.now minute (scripts_of scripts) i scripts.count)
+        (lent_mut state.old state.new) (lent_mut files.old files.new) (lent_mut logs.old logs.new) (lent_mut marks.old marks.new) (lent_mut undo.old undo.new) (lent_mut reader.old reader.new) ends result }
+{
+    let mut out = ends;
+    for k in 0..scripts.count {
+        if goes_on(out, k) & (i < scripts.counts[k]) {
+            let line = scripts.lines[SCRIPT_CALLS * k + i];
+            let call = line.call;
+            let next = take_turn(state, files, logs, marks, undo, k, call, bytes, reader, out);
+            out = next;
+        }
+    }
+    out
+}
+
+// The calls of a round: call i of each script, for each i in turn.
 fn make_passes(
     state: &mut State,
     files: &mut [u8],
@@ -218,27 +211,12 @@ fn make_passes(
         → Steps (λ m. passes (store_reply m) bytes.now minute (scripts_of scripts) script_calls)
         (lent_mut state.old state.new) (lent_mut files.old files.new) (lent_mut logs.old logs.new) (lent_mut marks.old marks.new) (lent_mut undo.old undo.new) (lent_mut reader.old reader.new) ends result }
 {
-    let count = scripts.count;
     let mut out = ends;
-    let mut i = 0;
-    let mut k = 0;
-    while i < SCRIPT_CALLS {
-        if k < count {
-            let due = goes_on(out, k) & (i < scripts.counts[k]);
-            let line = scripts.lines[SCRIPT_CALLS * k + i];
-            let call = line.call;
-            let t = Next {
-                script: k,
-                due: due,
-                call: call,
-            };
-            let next = take_turn(state, files, logs, marks, undo, t, bytes, reader, out);
-            out = next;
-            k += 1;
-        } else {
-            i += 1;
-            k = 0;
-        }
+    for i in 0..SCRIPT_CALLS {
+        let next = make_pass(
+            state, files, logs, marks, undo, scripts, i, bytes, reader, out,
+        );
+        out = next;
     }
     out
 }
@@ -266,7 +244,7 @@ fn commit_one(
         return p;
     }
     let o = store::commit(state, files, logs, marks, undo, k, minute);
-    let out = decide(state, files, logs, marks, undo, ends, k, gate_of(o));
+    let out = decide(state, files, logs, marks, undo, ends, k, o);
     DispatchProgress {
         ends: out,
         commits: p.commits + 1,
@@ -292,11 +270,8 @@ fn commit_all(
     ensures few { result.commits ≤ p.commits + count }
 {
     let mut out = p;
-    let mut k = 0;
-    while k < count {
-        let next = commit_one(state, files, logs, marks, undo, out, k, minute);
-        out = next;
-        k += 1;
+    for k in 0..count {
+        out = commit_one(state, files, logs, marks, undo, out, k, minute);
     }
     out
 }
@@ -361,17 +336,13 @@ pub fn run_rounds(
         ends: [e; SCRIPTS],
         commits: 0,
     };
-    let mut j = 0;
-    while j < count {
-        let ends = p.ends;
-        if all_over(ends, count) {
+    for _round in 0..count {
+        if all_over(p.ends, count) {
             return p;
         }
-        let next = run_round(
+        p = run_round(
             state, files, logs, marks, undo, scripts, bytes, reader, minute, p,
         );
-        p = next;
-        j += 1;
     }
     p
 }

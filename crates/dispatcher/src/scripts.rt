@@ -1,6 +1,7 @@
 // Scripts of calls, by value, and the test that they pass before any call of theirs is made (refusal 20).
-ghost use Rattle.std.specs.Prelude.{◌≡◌, true};
-ghost use Rattle.spec_dispatch.specs.Rounds.{part_in, scripts_in};
+ghost use Rattle.std.specs.Prelude.{◌≡◌, true, ◌<◌};
+ghost use Rattle.limits.specs.Limits.{script_count};
+ghost use Rattle.spec_dispatch.specs.Rounds.{part_in, script_in, scripts_in};
 ghost use Rattle.dispatcher.specs.Types.{script_call_of, scripts_of, NoCalls, OneMore};
 
 pub use limits::{SCRIPT_CALLS, SCRIPTS};
@@ -65,48 +66,44 @@ impl Scripts {
 }
 
 // A Write's part lies within a data buffer of n bytes.
+#[tactic(auto, unfolding(spec_dispatch::specs::Rounds::part_in, crate::specs::Types::script_call_of))]
 fn part_in(call: ScriptCall, n: usize) -> bool
     ensures { result ≡ part_in n (script_call_of call) }
 {
     match call {
-        ScriptCall::Seek(_, _) => true,
-        ScriptCall::Write(_, start, size) => {
-            if start > n {
-                return false;
-            }
-            size <= n - start
-        }
-        ScriptCall::GetFilePointer(_) => true,
-        ScriptCall::Read(_, _) => true,
+        ScriptCall::Write(_, start, size) => start <= n && size <= n - start,
+        ScriptCall::Seek(..) | ScriptCall::GetFilePointer(..) | ScriptCall::Read(..) => true,
     }
 }
 
-// There are at most eight scripts, each has at most sixteen calls, and the parts of their Writes lie within a
-// data buffer of n bytes: call i of script k, for each k in turn.
+// Script k has at most sixteen calls, and the parts of its Writes lie within a data buffer of n bytes.
+fn script_in(scripts: Scripts, k: usize, n: usize) -> bool
+    requires { k < script_count }
+    ensures { result ≡ script_in n ((scripts_of scripts).script k) }
+{
+    let calls = scripts.counts[k];
+    if calls > SCRIPT_CALLS {
+        return false;
+    }
+    for i in 0..calls {
+        let line = scripts.lines[SCRIPT_CALLS * k + i];
+        if !part_in(line.call, n) {
+            return false;
+        }
+    }
+    true
+}
+
+// There are at most eight scripts, and each is in range with a data buffer of n bytes.
 pub fn scripts_in(scripts: Scripts, n: usize) -> bool
     ensures { result ≡ scripts_in n (scripts_of scripts) }
 {
-    let count = scripts.count;
-    if count > SCRIPTS {
+    if scripts.count > SCRIPTS {
         return false;
     }
-    let mut k = 0;
-    let mut i = 0;
-    while k < count {
-        let calls = scripts.counts[k];
-        if calls > SCRIPT_CALLS {
+    for k in 0..scripts.count {
+        if !script_in(scripts, k, n) {
             return false;
-        }
-        if i < calls {
-            let line = scripts.lines[SCRIPT_CALLS * k + i];
-            let call = line.call;
-            if !part_in(call, n) {
-                return false;
-            }
-            i += 1;
-        } else {
-            k += 1;
-            i = 0;
         }
     }
     true

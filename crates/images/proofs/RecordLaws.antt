@@ -24,3 +24,6 @@ module _ (state : List ℕ) (fits : (i : ℕ) → get_or state i 0 < 65536) wher
 
   pub few-records : (store_of state).undo.used.records < 65536
   few-records = unfold store_of undo_of in fits (undo_valid_at + 1)
+
+-- What a state of 16-bit numbers says of the last grant's records.
+pub ruleset records = (low-record-descriptor, few-records)

@@ -1,6 +1,6 @@
 -- Numbers as bytes, put one after the other, and read again.
-use mathlib.Core.{List.{List, [], ◌∷◌, ◌++◌, append_assoc, append-nil}, Path.{◌≡◌, refl, sym, ap, ◌∙◌}}
-use lib.{ListN.{length, get_or, set, drop, length-append, drop_of_length-le}, Seq.{drop-cons, set_at}}
+use mathlib.Core.{List.{List, [], ◌∷◌, ◌++◌, append_assoc}, Path.{◌≡◌, refl, sym, ap, ◌∙◌}}
+use lib.{ListN.{length, get_or, set, drop, length-append}, Seq.{drop-cons, set_at}}
 use native.Mathlib.{Numerals.add-one, Omega.arith}
 use Prim.Native.Nat.{ℕ, zero, suc, ◌+◌, ◌*◌, ◌/◌, ◌%◌, ◌≤◌}
 use Rattle.images.specs.Words.{low_first, with_word_at}
@@ -37,6 +37,5 @@ module _ (f : ℕ → ℕ) where
         ∙ sym (append_assoc xs (low ∷ (high ∷ [])) rest) ∙ ap (λ (k : ℕ). (xs ++ (low ∷ (high ∷ []))) ++ drop k bytes)
         (sym e) ∙ ap (λ (t : List ℕ). t ++ drop (2 * (n + 1)) bytes) one_more
 
-    pub started-all : (n : ℕ) → length bytes ≡ 2 * n → started n ≡ low_first f n
-    started-all n e = ap (λ (t : List ℕ). low_first f n ++ t) (drop_of_length-le bytes {i = 2 * n} (omega arith)) ∙ append-nil
-        (low_first f n)
+-- A loop that puts the numbers one after the other.
+pub ruleset starts = (started_none, started-more)

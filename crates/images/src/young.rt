@@ -8,7 +8,6 @@ ghost use Rattle.images.specs.Young.{with_each, put_descriptor, put_file, with_l
 
 use crate::words::{Numbers, word_at};
 use counters::Used;
-use limits::{smaller, wide};
 use standings::Place;
 use state::journal::{LAST_GRANT, RECORDS, WriteRecord, put_record};
 use state::layout::{
@@ -19,16 +18,15 @@ use state::{DESCRIPTORS, FILES};
 use windows::Window;
 
 // The numbers of descriptors: files, offsets, and the offsets that the last grant found.
+#[tactic(auto, unfolding(crate::specs::Young::with_each, crate::specs::Young::put_descriptor))]
 fn put_descriptors(state: &mut State, image: &Numbers)
     ensures { state.new
         ≡ with_each (put_descriptor (word_at image.now)) 16 state.old }
 {
-    let mut d = 0;
-    while d < DESCRIPTORS {
+    for d in 0..DESCRIPTORS {
         put_file(state, d, word_at(image, 1 + d));
         put_offset(state, d, word_at(image, 17 + d));
         put_found_offset(state, d, word_at(image, 60 + d));
-        d += 1;
     }
 }
 
@@ -38,67 +36,70 @@ fn window_from(image: &Numbers, f: usize) -> Window
     ensures { result
         ≡ window (word_at image.now (41 + f)) (word_at image.now (49 + f)) }
 {
-    let start = word_at(image, 41 + f);
-    let end = word_at(image, 49 + f);
-    Window { start, end }
+    Window {
+        start: word_at(image, 41 + f),
+        end: word_at(image, 49 + f),
+    }
 }
 
 // The numbers of files: lengths, windows, and the lengths that the last grant found.
+#[tactic(auto, unfolding(crate::specs::Young::with_each, crate::specs::Young::put_file))]
 fn put_files(state: &mut State, image: &Numbers)
     ensures { state.new
         ≡ with_each (put_file (word_at image.now)) 8 state.old }
 {
-    let mut f = 0;
-    while f < FILES {
+    for f in 0..FILES {
         put_length(state, f, word_at(image, 33 + f));
         put_window(state, f, window_from(image, f));
         put_found_length(state, f, word_at(image, 76 + f));
-        f += 1;
     }
 }
 
 // Whether the last grant can be undone, and its counters.
+#[tactic(auto, unfolding(crate::specs::Young::with_last_grant))]
 fn put_grant(state: &mut State, image: &Numbers)
     ensures { state.new ≡ with_last_grant (word_at image.now) state.old }
 {
     put_undo_valid(state, word_at(image, 57) == 1);
-    let records = wide(word_at(image, 58));
-    let bytes = word_at(image, 59);
-    put_undo_used(state, Used { records, bytes });
+    let used = Used {
+        records: usize::from(word_at(image, 58)),
+        bytes: word_at(image, 59),
+    };
+    put_undo_used(state, used);
 }
 
 // Write record k of the last grant.
+#[tactic(auto, unfolding(crate::specs::Loaded::record_from, state::specs::Journal::decoded, state::specs::Journal::decoded_as))]
 fn record_from(image: &Numbers, k: usize) -> WriteRecord
     requires { k < 64 }
     ensures { (result.descriptor < 65520) × (result ≡ record_from (word_at image.now) k) }
 {
-    let h = word_at(image, 84 + k);
-    let p = word_at(image, 148 + k);
+    let code = word_at(image, 84 + k);
+    let place = word_at(image, 148 + k);
     let length = word_at(image, 212 + k);
-    if h < 16 {
+    if code < 16 {
         return WriteRecord {
-            descriptor: h,
-            place: Place::At(p),
+            descriptor: code,
+            place: Place::At(place),
             length,
         };
     }
     WriteRecord {
-        descriptor: h - 16,
-        place: Place::After(p),
+        descriptor: code - 16,
+        place: Place::After(place),
         length,
     }
 }
 
 // The write records of the last grant.
+#[tactic(auto, unfolding(state::specs::Journal::with_records))]
 fn put_records(state: &mut State, image: &Numbers)
     ensures { state.new ≡ with_records state.old last_grant
         (record_from (word_at image.now)) (min (word_at image.now 58) 64) }
 {
-    let records = smaller(wide(word_at(image, 58)), RECORDS);
-    let mut k = 0;
-    while k < records {
+    let records = usize::from(word_at(image, 58)).min(RECORDS);
+    for k in 0..records {
         put_record(state, LAST_GRANT, k, record_from(image, k));
-        k += 1;
     }
 }
 
@@ -115,26 +116,24 @@ pub fn young_record(image: &Numbers) -> State
 }
 
 // No number of write record k says anything.
+#[tactic(auto, unfolding(crate::specs::Loaded::blank_record))]
 fn is_blank(image: &Numbers, k: usize) -> bool
     requires { k < 64 }
     ensures { result ≡ blank_record (word_at image.now) k }
 {
-    let h = word_at(image, 84 + k);
-    let p = word_at(image, 148 + k);
-    let n = word_at(image, 212 + k);
-    (h == 0) & ((p == 0) & (n == 0))
+    word_at(image, 84 + k) == 0 && word_at(image, 148 + k) == 0 && word_at(image, 212 + k) == 0
 }
 
 // The flag is 0 or 1, and nothing is said past the write records.
+#[tactic(auto, unfolding(crate::specs::Loaded::canonical))]
 pub fn is_canonical(image: &Numbers) -> bool
     ensures { result ≡ canonical (word_at image.now) }
 {
-    let records = wide(word_at(image, 58));
-    let mut good = true;
-    let mut k = 0;
-    while k < RECORDS {
-        good = good & ((k < records) | is_blank(image, k));
-        k += 1;
+    let records = usize::from(word_at(image, 58));
+    for k in 0..RECORDS {
+        if k >= records && !is_blank(image, k) {
+            return false;
+        }
     }
-    (word_at(image, 57) <= 1) & good
+    word_at(image, 57) <= 1
 }

@@ -1,8 +1,5 @@
-// The limits of the papers, each in one line (specs/Limits.antt has the same for contracts); a wider type;
-// the smaller and the larger of two numbers, and what one has over the other.
+// The limits of the papers, each in one line (specs/Limits.antt has the same for contracts).
 #![tactic(auto)]
-
-ghost use Rattle.std.specs.Prelude.{◌≡◌, ◌-◌, ◌≤◌, min, max};
 
 pub const FILES: usize = 8;
 
@@ -45,43 +42,3 @@ pub const UNDO_BYTES: usize = 4096;
 
 // The largest budget of orders.
 pub const MOST_ORDERS: usize = 40320;
-
-pub fn wide(x: u16) -> usize
-    ensures { (result ≡ x) × (result ≤ 65535) }
-{
-    x as usize
-}
-
-pub fn wide_octet(x: u8) -> usize
-    ensures { (result ≡ x) × (result ≤ 255) }
-{
-    x as usize
-}
-
-pub fn smaller(a: usize, b: usize) -> usize
-    ensures { result ≡ min a b }
-{
-    if a < b {
-        return a;
-    }
-    b
-}
-
-pub fn larger(a: usize, b: usize) -> usize
-    ensures { result ≡ max a b }
-{
-    if a < b {
-        return b;
-    }
-    a
-}
-
-// a less b, 0 where b is the larger.
-pub fn over(a: usize, b: usize) -> usize
-    ensures { result ≡ a - b }
-{
-    if a < b {
-        return 0;
-    }
-    a - b
-}

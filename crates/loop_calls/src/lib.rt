@@ -3,24 +3,21 @@
 
 use limits::FILE_BYTES;
 use state::layout::State;
-use state::outcomes::Outcome;
+use state::outcomes::{Answer, Outcome};
 use store::{Buffer, UndoLog};
 
 // The number that an outcome carries.
 fn number(o: Outcome) -> u64 {
     match o {
-        Outcome::Done => 0,
-        Outcome::Offset(n) => n as u64,
-        Outcome::Given(n) => n as u64,
-        Outcome::Granted(n) => n as u64,
-        Outcome::Pairs(n) => n as u64,
-        Outcome::Ordered(n, _, _) => n as u64,
-        Outcome::Refused(r) => r.number() as u64,
+        Ok(Answer::Done) => 0,
+        Ok(Answer::Offset(n) | Answer::Given(n) | Answer::Pairs(n)) => u64::from(n),
+        Ok(Answer::Granted(n) | Answer::Ordered(n, _, _)) => u64::from(n),
+        Err(r) => u64::from(r.number()),
     }
 }
 
 fn added(sum: u64, o: Outcome) -> u64 {
-    std::num::wrapping_add_u64(sum, number(o))
+    sum.wrapping_add(number(o))
 }
 
 #[unsafe(no_mangle)]
@@ -35,10 +32,8 @@ pub extern "C" fn loop_calls_seek(
     v: usize,
     n: usize,
 ) -> u64 {
-    let mut sum = 0;
-    let mut i = 0;
-    while i < n {
-        i += 1;
+    let mut sum: u64 = 0;
+    for _ in 0..n {
         sum = added(sum, store::seek(state, files, logs, marks, undo, t, d, v));
     }
     sum
@@ -56,10 +51,8 @@ pub extern "C" fn loop_calls_pointer(
     v: usize,
     n: usize,
 ) -> u64 {
-    let mut sum = 0;
-    let mut i = 0;
-    while i < n {
-        i += 1;
+    let mut sum: u64 = 0;
+    for _ in 0..n {
         sum = added(
             sum,
             store::get_file_pointer(state, files, logs, marks, undo, t, d),
@@ -81,10 +74,8 @@ pub extern "C" fn loop_calls_seek_read<'a>(
     v: usize,
     n: usize,
 ) -> u64 {
-    let mut sum = 0;
-    let mut i = 0;
-    while i < n {
-        i += 1;
+    let mut sum: u64 = 0;
+    for _ in 0..n {
         sum = added(sum, store::seek(state, files, logs, marks, undo, t, d, 0));
         sum = added(
             sum,
@@ -106,10 +97,8 @@ pub extern "C" fn loop_calls_begin_commit(
     v: usize,
     n: usize,
 ) -> u64 {
-    let mut sum = 0;
-    let mut i = 0;
-    while i < n {
-        i += 1;
+    let mut sum: u64 = 0;
+    for _ in 0..n {
         sum = added(sum, store::begin(state, files, logs, marks, undo, t));
         sum = added(sum, store::commit(state, files, logs, marks, undo, t, v));
     }
@@ -127,15 +116,13 @@ fn written(
     d: usize,
     v: usize,
 ) -> u64 {
-    let mut sum = 0;
-    sum = added(sum, store::begin(state, files, logs, marks, undo, t));
+    let mut sum = added(0, store::begin(state, files, logs, marks, undo, t));
     sum = added(sum, store::seek(state, files, logs, marks, undo, t, d, 0));
     sum = added(
         sum,
         store::write(state, files, logs, marks, undo, t, d, bytes),
     );
-    sum = added(sum, store::commit(state, files, logs, marks, undo, t, v));
-    sum
+    added(sum, store::commit(state, files, logs, marks, undo, t, v))
 }
 
 #[unsafe(no_mangle)]
@@ -151,14 +138,9 @@ pub extern "C" fn loop_calls_begin_write_commit(
     v: usize,
     n: usize,
 ) -> u64 {
-    let mut sum = 0;
-    let mut i = 0;
-    while i < n {
-        i += 1;
-        sum = std::num::wrapping_add_u64(
-            sum,
-            written(state, files, logs, marks, undo, bytes, t, d, v),
-        );
+    let mut sum: u64 = 0;
+    for _ in 0..n {
+        sum = sum.wrapping_add(written(state, files, logs, marks, undo, bytes, t, d, v));
     }
     sum
 }

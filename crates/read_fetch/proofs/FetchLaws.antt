@@ -11,8 +11,9 @@ use Rattle.admission.specs.Admission.{lengths_before}
 use Rattle.spec.proofs.Abstract.Programs.{result-and_then, asked-and_then}
 use Rattle.spec.specs.Items.{Item, byte, offset, file_length, Values, Prog, done, and_then, result, asked}
 use Rattle.spec.specs.{Reading.{Source, own, file, latest, bring, fetch}, Transactions.Write, Calls.marked, Machine.lengthmarked}
-use Rattle.read_lookup.specs.declared.{Extent.Extent, Run.Run, Supplier.{Supplier, TheVariants.{File, Record}}}
-use Rattle.read_lookup.specs.Lookup.{extent, Recorded, supplier, is_record, stands_at, source_of, RunOf, write_in}
+use Rattle.std.specs.Prelude.{Option, Some, None, is_some}
+use Rattle.read_lookup.specs.declared.{Extent.Extent, Run.Run}
+use Rattle.read_lookup.specs.Lookup.{extent, Recorded, supplier, stands_at, source_of, RunOf, write_in}
 use Rattle.read_lookup.proofs.RunLaws.{latest-is, run-in-log, run_along}
 use Rattle.read_fetch.specs.Fetch.{file_values, fetching, bytes_read, marks_after}
 
@@ -169,24 +170,24 @@ module _ (j : Recorded) (t records : ℕ) (log file : List ℕ) (inside : length
   abbrev of_one : ℕ → ℕ → Prog ℕ
   of_one f p = one (file_values f file) (λ d. get_or j.filenumbers d 0) (tabulate (write_in j.journal log t) records) f p
 
-  supplied : (f p : ℕ) (s : Supplier) → supplier j t records f p ≡ s → of_one f p
+  supplied : (f p : ℕ) (s : Option ℕ) → supplier j t records f p ≡ s → of_one f p
       ≡ bring (source_of j.journal log t p s) (file_bytes * f + p)
   supplied f p s e = ap (λ (x : Source). bring x (file_bytes * f + p))
       (latest-is j log t f p records inside ∙ ap (source_of j.journal log t p) e)
 
-  by-file : (f p : ℕ) → supplier j t records f p ≡ File → (result (file_values f file) (of_one f p) ≡ get_or file p 0)
+  by-file : (f p : ℕ) → supplier j t records f p ≡ None → (result (file_values f file) (of_one f p) ≡ get_or file p 0)
       × (asked (file_values f file) (of_one f p) ≡ byte (file_bytes * f + p) ∷ [])
   unfolding source_of bring result asked file_values
   by-file f p e = let g : file_bytes * f + p - file_bytes * f ≡ p = omega arith in (
-    ap (result (file_values f file)) (supplied f p File e) ∙ ap (λ (k : ℕ). get_or file k 0) g,
-    ap (asked (file_values f file)) (supplied f p File e),
+    ap (result (file_values f file)) (supplied f p None e) ∙ ap (λ (k : ℕ). get_or file k 0) g,
+    ap (asked (file_values f file)) (supplied f p None e),
   )
 
-  by-record : (f p k : ℕ) → supplier j t records f p ≡ Record k → (result (file_values f file) (of_one f p) ≡ get_or log
-      (stands_at j.journal t p (Record k)) 0) × (asked (file_values f file) (of_one f p) ≡ [])
+  by-record : (f p k : ℕ) → supplier j t records f p ≡ Some k → (result (file_values f file) (of_one f p) ≡ get_or log
+      (stands_at j.journal t p (Some k)) 0) × (asked (file_values f file) (of_one f p) ≡ [])
   by-record f p k e = unfold source_of bring result asked in (
-    ap (result (file_values f file)) (supplied f p (Record k) e),
-    ap (asked (file_values f file)) (supplied f p (Record k) e),
+    ap (result (file_values f file)) (supplied f p (Some k) e),
+    ap (asked (file_values f file)) (supplied f p (Some k) e),
   )
 
   module _ (e : Extent) (r : Run) (run : RunOf j t records e r) (within : e.place + e.length ≤ length file) where
@@ -197,26 +198,26 @@ module _ (j : Recorded) (t records : ℕ) (log file : List ℕ) (inside : length
     p = e.place
 
     abbrev logged : Bool
-    logged = is_record r.supplier
+    logged = is_some r.supplier
 
     -- the places of the run
     abbrev its : Extent
     its = extent f p r.length
 
     -- a run of the file, and one of a record
-    is-file : supplier j t records f p ≡ File → (logged ≡ false) × (r.at ≡ p)
-    is-file s = unfold stands_at in (ap is_record (run.supplied ∙ s), run.start ∙ ap (stands_at j.journal t p) s)
+    is-file : supplier j t records f p ≡ None → (logged ≡ false) × (r.at ≡ p)
+    is-file s = unfold stands_at in (ap is_some (run.supplied ∙ s), run.start ∙ ap (stands_at j.journal t p) s)
 
-    is-record : (k : ℕ) → supplier j t records f p ≡ Record k → logged ≡ true
-    is-record k s = ap is_record (run.supplied ∙ s)
+    is-record : (k : ℕ) → supplier j t records f p ≡ Some k → logged ≡ true
+    is-record k s = ap is_some (run.supplied ∙ s)
 
     pub run-within : length log ≡ log_bytes → length file ≡ file_bytes → r.at + r.length ≤ file_bytes
     run-within = pick (supplier j t records f p) refl
       where
-        pick : (s : Supplier) → supplier j t records f p ≡ s → length log ≡ log_bytes → length file ≡ file_bytes
+        pick : (s : Option ℕ) → supplier j t records f p ≡ s → length log ≡ log_bytes → length file ≡ file_bytes
             → r.at + r.length ≤ file_bytes
-        pick File s hl hf = omega (arith, (is-file s).1, run.within)
-        pick (Record k) s hl hf = omega (arith, run-in-log j t records e r run k s)
+        pick None s hl hf = omega (arith, (is-file s).1, run.within)
+        pick (Some k) s hl hf = omega (arith, run-in-log j t records e r run k s)
 
     -- "handed over as that part of the log or of the file"
     pub run-bytes : bytes_read j t records log file its ≡ cut (chosen (logged) log file) r.at r.length
@@ -228,11 +229,11 @@ module _ (j : Recorded) (t records : ℕ) (log file : List ℕ) (inside : length
         part at src = result-run (file_values f file) (λ d. get_or j.filenumbers d 0)
             (tabulate (write_in j.journal log t) records) f p at r.length src
 
-        pick : (s : Supplier) → supplier j t records f p ≡ s
+        pick : (s : Option ℕ) → supplier j t records f p ≡ s
             → bytes_read j t records log file its ≡ cut (chosen (logged) log file) r.at r.length
-        pick File s = let g = is-file s in
+        pick None s = let g = is-file s in
             rw (g.0, g.1) (part p file (omega (arith, run.within)) (λ i l. (by-file f (p + i) (run.same i l ∙ s)).0))
-        pick (Record k) s =
+        pick (Some k) s =
             rw (is-record k s) (part r.at log (omega (arith, run-in-log j t records e r run k s)) (λ i l. (by-record f
             (p + i) k (run.same i l ∙ s)).0 ∙ ap (λ (m : ℕ). get_or log m 0) (run_along j t records e r run k s i)))
 
@@ -241,9 +242,9 @@ module _ (j : Recorded) (t records : ℕ) (log file : List ℕ) (inside : length
     unfolding marks_after fetching marked
     run-shields marks b = pick (supplier j t records f p) refl
       where
-        pick : (s : Supplier) → supplier j t records f p ≡ s → marks_after j t records log file its marks ≡ marks
-        pick File s = absurd (false≢true (sym (is-file s).0 ∙ b))
-        pick (Record k) s = ap (λ (l : List Item). marked t l marks)
+        pick : (s : Option ℕ) → supplier j t records f p ≡ s → marks_after j t records log file its marks ≡ marks
+        pick None s = absurd (false≢true (sym (is-file s).0 ∙ b))
+        pick (Some k) s = ap (λ (l : List Item). marked t l marks)
             (asked-run (file_values f file) (λ d. get_or j.filenumbers d 0) (tabulate (write_in j.journal log t) records)
             f p r.length (λ i l. (by-record f (p + i) k (run.same i l ∙ s)).1))
 
@@ -252,11 +253,11 @@ module _ (j : Recorded) (t records : ℕ) (log file : List ℕ) (inside : length
     unfolding marks_after fetching
     run-marks marks b from n ef en = ap₂ (λ (k i : ℕ). with_marks t k i marks) ef en ∙ sym (pick (supplier j t records f p) refl)
       where
-        pick : (s : Supplier) → supplier j t records f p ≡ s → marks_after j t records log file its marks
+        pick : (s : Option ℕ) → supplier j t records f p ≡ s → marks_after j t records log file its marks
             ≡ with_marks t (file_bytes * f + p) r.length marks
-        pick File s = marked-run (file_values f file) (λ d. get_or j.filenumbers d 0) (tabulate (write_in j.journal log t)
+        pick None s = marked-run (file_values f file) (λ d. get_or j.filenumbers d 0) (tabulate (write_in j.journal log t)
             records) f t p r.length marks (λ i l. (by-file f (p + i) (run.same i l ∙ s)).1)
-        pick (Record k) s = absurd (false≢true (sym b ∙ is-record k s))
+        pick (Some k) s = absurd (false≢true (sym b ∙ is-record k s))
 
 -- ---- the buffers after some bytes, and after some more
 

@@ -2,15 +2,14 @@
 use Rattle.std.specs.Prelude.{cond, List, ◌++◌, ◌≡◌, eqb, length, get_or, drop, ℕ, ◌+◌, ◌-◌, ◌*◌, ◌≤◌, ◌<◌}
 use Rattle.limits.specs.Limits.{file_count, file_bytes, buffer_bytes, log_bytes}
 use Rattle.counters.specs.declared.Used.{Used}
-use Rattle.buffers.specs.Parts.{cut, pasted, tabulate, file_part}
-use Rattle.state.specs.Layout.{journal_of}
+use Rattle.buffers.specs.Parts.{cut, tabulate, file_part}
 use Rattle.spec.specs.Items.{Values, byte, offset, file_length, Prog, result, asked}
 use Rattle.spec.specs.Reading.{fetch}
 use Rattle.spec.specs.Calls.{marked}
 use Rattle.spec.specs.Promises.{Lent}
 use Rattle.read_lookup.specs.declared.Extent.{Extent}
 use Rattle.read_lookup.specs.declared.Run.{Run}
-use Rattle.read_lookup.specs.Lookup.{extent, Recorded, recorded_in, CountedRecords, write_in}
+use Rattle.read_lookup.specs.Lookup.{extent, Recorded, recorded_in, write_in}
 
 -- The committed bytes of file f, "the part that starts at place 4,096 × f" [R-2.1]. A Read asks for no other
 -- item while it fetches.
@@ -45,24 +44,7 @@ visited_by u own = cond (eqb own 0) (record { records = 0; bytes = 0 }) u
 abbrev pub run_extent : Extent → Run → Extent
 run_extent e r = extent e.file e.place r.length
 
--- The reader's buffer and the marks after, of what a function is lent: the state with the parts of the
--- buffers, or with the whole of them. The bytes are pasted from a place of the reader's buffer on, or are its
--- front.
-abbrev pub pasted_from : Lent → Lent → Lent → ℕ → Used → Extent → Lent → ℕ → List ℕ
-pasted_from state file log t u e reader at =
-    pasted reader.entry at (bytes_read (recorded_in state.entry) t u.records
-    log.entry file.entry e)
-
-abbrev pub reader_from : Lent → Lent → Lent → ℕ → Used → Extent → Lent → List ℕ
-reader_from state file log t u e reader =
-    bytes_read (recorded_in state.entry) t u.records log.entry file.entry e
-    ++ drop e.length reader.entry
-
-abbrev pub marks_from : Lent → Lent → Lent → Lent → ℕ → Used → Extent → List ℕ
-marks_from state file log marks t u e =
-    marks_after (recorded_in state.entry) t u.records log.entry file.entry e
-    marks.entry
-
+-- The reader's buffer and the marks after, of what a function is lent: the state with the whole of the buffers.
 abbrev pub reader_within : Lent → Lent → Lent → ℕ → Used → Extent → Lent → List ℕ
 reader_within state files logs t u e reader =
     bytes_read (recorded_in state.entry) t u.records (log_part logs.entry t)
@@ -75,18 +57,14 @@ marks_within state files logs marks t u e =
     (file_part files.entry e.file) e
     marks.entry
 
--- What the callers hand over: a journal in range, a whole file, log and marks buffer, places of the file.
-pub record Handed (state file log marks : List ℕ) (t : ℕ) (u : Used) (e : Extent) : Type 0 where
-  pub counted : CountedRecords (journal_of state) t u
-  pub file_length : length file ≡ file_bytes
-  pub log_length : length log ≡ log_bytes
+-- What the callers hand over: a whole marks buffer, places of a file.
+pub record Handed (marks : List ℕ) (e : Extent) : Type 0 where
   pub marks_length : length marks ≡ buffer_bytes
   pub file_in : e.file < file_count
   pub places : e.place + e.length ≤ file_bytes
 
 -- What the callers hand over with whole buffers.
-pub record HandedWhole (state files logs marks : List ℕ) (t : ℕ) (u : Used) (e : Extent) : Type 0 where
-  pub counted : CountedRecords (journal_of state) t u
+pub record HandedWhole (files logs marks : List ℕ) (e : Extent) : Type 0 where
   pub files_length : length files ≡ buffer_bytes
   pub logs_length : length logs ≡ buffer_bytes
   pub marks_length : length marks ≡ buffer_bytes

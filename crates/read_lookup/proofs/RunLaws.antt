@@ -14,7 +14,8 @@ use Rattle.admission.proofs.Laws.{and_left, and_right, and_both, TransactionInRa
 use Rattle.buffers.{specs.Parts.{cut, tabulate}, proofs.PartLaws.{le-or-lt, length_cut, get_d-cut}}
 use Rattle.spec.specs.Reading.{lies_over, byte_at, Source, own, file, supplies, or_else, latest, write_end, placed_end, farthest}
 use Rattle.spec.{specs.{Reading.own_end, Transactions.Write}, proofs.Refinement.WriteEnds.farthest-last}
-use Rattle.read_lookup.specs.declared.{Extent.Extent, Run.Run, Supplier.{Supplier, TheVariants.{File, Record}}}
+use Rattle.std.specs.Prelude.{Option, Some, None}
+use Rattle.read_lookup.specs.declared.{Extent.Extent, Run.Run}
 use Rattle.read_lookup.specs.Lookup.{extent, Recorded, covers, covered_by, newest, supplier, stands_at, CountedRecords, GapOf}
 use Rattle.read_lookup.specs.Lookup.{LatestWrite, RunOf, write_in, source_of, record_end, reach}
 
@@ -109,44 +110,44 @@ module _ (filenumbers : List ℕ) (w : WriteRecord) (e : Extent) where
 
 -- ---- the walk from the newest record back
 
-newest-suc : (c : ℕ → Bool) (n : ℕ) → newest c (suc n) ≡ cond (c n) (Record n) (newest c n)
+newest-suc : (c : ℕ → Bool) (n : ℕ) → newest c (suc n) ≡ cond (c n) (Some n) (newest c n)
 newest-suc c n = unfold newest in refl
 
-newest-is : (c : ℕ → Bool) (n k : ℕ) → newest c n ≡ Record k → (k < n) × (c k ≡ true)
+newest-is : (c : ℕ → Bool) (n k : ℕ) → newest c n ≡ Some k → (k < n) × (c k ≡ true)
 unfolding newest
 newest-is c zero k e = let z : ◌≡◌ {A = ℕ} 0 1 = cc in absurd (omega arith)
 newest-is c (suc n) k e = pick (c n) refl (sym (newest-suc c n) ∙ e) (newest-is c n k)
   where
-    pick : (b : Bool) → c n ≡ b → cond b (Record n) (newest c n) ≡ Record k → (newest c n ≡ Record k → (k < n) × (c k ≡ true))
+    pick : (b : Bool) → c n ≡ b → cond b (Some n) (newest c n) ≡ Some k → (newest c n ≡ Some k → (k < n) × (c k ≡ true))
         → (k < suc n) × (c k ≡ true)
     pick true q e ih = let s : n ≡ k = cc in (omega arith, ap c (sym s) ∙ q)
     pick false q e ih = let r = ih e in (omega arith, r.1)
 
 -- no later one than the first that it meets covers
-newest-later : (c : ℕ → Bool) (n k m : ℕ) → newest c n ≡ Record k → k < m → m < n → c m ≡ false
+newest-later : (c : ℕ → Bool) (n k m : ℕ) → newest c n ≡ Some k → k < m → m < n → c m ≡ false
 unfolding newest
 newest-later c zero k m e g l = absurd (omega arith)
 newest-later c (suc n) k m e g l = pick (c n) refl (sym (newest-suc c n) ∙ e) (λ e h. newest-later c n k m e g h)
   where
-    pick : (b : Bool) → c n ≡ b → cond b (Record n) (newest c n) ≡ Record k → (newest c n ≡ Record k → m < n → c m ≡ false) → c m
+    pick : (b : Bool) → c n ≡ b → cond b (Some n) (newest c n) ≡ Some k → (newest c n ≡ Some k → m < n → c m ≡ false) → c m
         ≡ false
     pick true q e ih = let s : n ≡ k = cc in absurd (omega arith)
     pick false q e ih = ⊎_elim (ih e) (λ h. let s : m ≡ n = omega arith in ap c s ∙ q) (le-or-lt (suc m) n)
 
 -- it meets none exactly when none covers
-newest-none : (c : ℕ → Bool) (n : ℕ) → newest c n ≡ File → (k : ℕ) → k < n → c k ≡ false
+newest-none : (c : ℕ → Bool) (n : ℕ) → newest c n ≡ None → (k : ℕ) → k < n → c k ≡ false
 unfolding newest
 newest-none c zero e k l = absurd (omega arith)
 newest-none c (suc n) e k l = pick (c n) refl (sym (newest-suc c n) ∙ e) (λ e. newest-none c n e k)
   where
-    pick : (b : Bool) → c n ≡ b → cond b (Record n) (newest c n) ≡ File → (newest c n ≡ File → k < n → c k ≡ false) → c k ≡ false
+    pick : (b : Bool) → c n ≡ b → cond b (Some n) (newest c n) ≡ None → (newest c n ≡ None → k < n → c k ≡ false) → c k ≡ false
     pick true q e ih = let z : ◌≡◌ {A = ℕ} 0 1 = cc in absurd (omega arith)
     pick false q e ih = ⊎_elim (ih e) (λ h. let s : k ≡ n = omega arith in ap c s ∙ q) (le-or-lt (suc k) n)
 
-newest-only : (c : ℕ → Bool) (n : ℕ) → ((k : ℕ) → k < n → c k ≡ false) → newest c n ≡ File
+newest-only : (c : ℕ → Bool) (n : ℕ) → ((k : ℕ) → k < n → c k ≡ false) → newest c n ≡ None
 unfolding newest
 newest-only c zero h = refl
-newest-only c (suc n) h = newest-suc c n ∙ ap (λ (b : Bool). cond b (Record n) (newest c n)) (h n (omega arith))
+newest-only c (suc n) h = newest-suc c n ∙ ap (λ (b : Bool). cond b (Some n) (newest c n)) (h n (omega arith))
     ∙ newest-only c n (λ k l. h k (omega arith))
 
 abbrev theirs : Recorded → ℕ → ℕ → WriteRecord
@@ -154,18 +155,18 @@ theirs j t k = write_record_at j.journal t k
 
 module _ (j : Recorded) (t f : ℕ) where
   -- the record that supplies a place is one of the transaction's and covers it
-  supplier-is : (n p k : ℕ) → supplier j t n f p ≡ Record k → (k < n) × (covers j.filenumbers f p (theirs j t k) ≡ true)
+  supplier-is : (n p k : ℕ) → supplier j t n f p ≡ Some k → (k < n) × (covers j.filenumbers f p (theirs j t k) ≡ true)
   supplier-is n p k e = unfold supplier in newest-is (λ k. covers j.filenumbers f p (theirs j t k)) n k e
 
   supplier-suc : (k p : ℕ) → supplier j t (suc k) f p
-      ≡ cond (covers j.filenumbers f p (theirs j t k)) (Record k) (supplier j t k f p)
+      ≡ cond (covers j.filenumbers f p (theirs j t k)) (Some k) (supplier j t k f p)
   supplier-suc k p = unfold supplier in newest-suc (λ k. covers j.filenumbers f p (theirs j t k)) k
 
-  supplier-this : (k p : ℕ) → covers j.filenumbers f p (theirs j t k) ≡ true → supplier j t (suc k) f p ≡ Record k
-  supplier-this k p e = supplier-suc k p ∙ ap (λ (b : Bool). cond b (Record k) (supplier j t k f p)) e
+  supplier-this : (k p : ℕ) → covers j.filenumbers f p (theirs j t k) ≡ true → supplier j t (suc k) f p ≡ Some k
+  supplier-this k p e = supplier-suc k p ∙ ap (λ (b : Bool). cond b (Some k) (supplier j t k f p)) e
 
   supplier-older : (k p : ℕ) → covers j.filenumbers f p (theirs j t k) ≡ false → supplier j t (suc k) f p ≡ supplier j t k f p
-  supplier-older k p e = supplier-suc k p ∙ ap (λ (b : Bool). cond b (Record k) (supplier j t k f p)) e
+  supplier-older k p e = supplier-suc k p ∙ ap (λ (b : Bool). cond b (Some k) (supplier j t k f p)) e
 
 -- The walk has come back to record k: of the first n places, each has its supplier among the records before it, and the place
 -- after them has a newer one.
@@ -173,11 +174,11 @@ pub record Walked (j : Recorded) (t records : ℕ) (e : Extent) (k n : ℕ) : Ty
   pub some : 1 ≤ n
   pub within : n ≤ e.length
   pub same : (i : ℕ) → i < n → supplier j t records e.file (e.place + i) ≡ supplier j t k e.file (e.place + i)
-  pub ended : n < e.length → (m : ℕ) × (k ≤ m) × (supplier j t records e.file (e.place + n) ≡ Record m)
+  pub ended : n < e.length → (m : ℕ) × (k ≤ m) × (supplier j t records e.file (e.place + n) ≡ Some m)
 
 module _ (j : Recorded) (t records : ℕ) (e : Extent) where
   abbrev by : ℕ → ℕ → Type 0
-  by i k = supplier j t records e.file (e.place + i) ≡ Record k
+  by i k = supplier j t records e.file (e.place + i) ≡ Some k
 
   pub walked_none : 1 ≤ e.length → Walked j t records e records e.length
   walked_none h = record { some = h; within = omega arith; same = λ i g. refl; ended = λ g. absurd (omega arith) }
@@ -212,7 +213,7 @@ module _ (j : Recorded) (t records : ℕ) (e : Extent) where
       abbrev z : ℕ
       z = (theirs j t k).length
 
-      here : supplier j t records e.file e.place ≡ Record k
+      here : supplier j t records e.file e.place ≡ Some k
       here = ap (supplier j t records e.file) (sym (add-zero e.place)) ∙ w.same 0 w.some
           ∙ ap (supplier j t (suc k) e.file) (add-zero e.place) ∙ supplier-this j t e.file k e.place first
 
@@ -229,7 +230,7 @@ module _ (j : Recorded) (t records : ℕ) (e : Extent) where
           ∙ supplier-this j t e.file k (e.place + i) (covers-along j.filenumbers e.file e.place (theirs j t k)
           first (e.place + i) (omega (arith, (covers-in j.filenumbers e.file e.place (theirs j t k) first).0)) h)
 
-      pub walked-found : (r : Run) → r.supplier ≡ Record k → r.at ≡ lengths_before j.journal t k + (e.place - x)
+      pub walked-found : (r : Run) → r.supplier ≡ Some k → r.at ≡ lengths_before j.journal t k + (e.place - x)
           → r.length ≡ min n (x + z - e.place) → RunOf j t records e r
       unfolding stands_at
       walked-found r b d q = let g = covers-in j.filenumbers e.file e.place (theirs j t k) first in
@@ -248,16 +249,16 @@ module _ (j : Recorded) (t records : ℕ) (e : Extent) where
 
   -- no record covers the first place
   module _ (n : ℕ) (w : Walked j t records e 0 n) where
-    by-file : (i : ℕ) → i < n → supplier j t records e.file (e.place + i) ≡ File
+    by-file : (i : ℕ) → i < n → supplier j t records e.file (e.place + i) ≡ None
     by-file i l = w.same i l ∙ supplier-zero (e.place + i)
       where
-        supplier-zero : (q : ℕ) → supplier j t 0 e.file q ≡ File
+        supplier-zero : (q : ℕ) → supplier j t 0 e.file q ≡ None
         supplier-zero q = unfold supplier newest in refl
 
-    here-file : supplier j t records e.file e.place ≡ File
+    here-file : supplier j t records e.file e.place ≡ None
     here-file = ap (supplier j t records e.file) (sym (add-zero e.place)) ∙ by-file 0 w.some
 
-    pub walked_all : RunOf j t records e (record { supplier = File; looked = records; at = e.place; length = n })
+    pub walked_all : RunOf j t records e (record { supplier = None; looked = records; at = e.place; length = n })
     walked_all = unfold stands_at in record {
       supplied = sym here-file;
       start = sym (ap (stands_at j.journal t e.place) here-file);
@@ -298,7 +299,7 @@ data-back journal t k h = let e : k ≡ suc (k - 1) = omega arith in ap (lengths
 module _ (j : Recorded) (log : List ℕ) (t f p : ℕ) where
   supplies-is : (k : ℕ) → lengths_before j.journal t (suc k) ≤ length log
       → supplies (λ d. get_or j.filenumbers d 0) f p (write_in j.journal log t k)
-      ≡ cond (covers j.filenumbers f p (theirs j t k)) (source_of j.journal log t p (Record k)) file
+      ≡ cond (covers j.filenumbers f p (theirs j t k)) (source_of j.journal log t p (Some k)) file
   unfolding supplies write_in covers source_of stands_at
   supplies-is k h = ap (λ (n : ℕ). cond (eqb (get_or j.filenumbers w.descriptor 0) f && lies_over w.place n p)
       (own (byte_at w.place bytes p)) file) long ∙ pick (covers j.filenumbers f p w) refl
@@ -331,14 +332,14 @@ module _ (j : Recorded) (log : List ℕ) (t f p : ℕ) where
       (write_in j.journal log t n ∷ []) ∙ ap₂ or_else (supplies-is n h)
       (latest-is n (omega (arith, data-suc j.journal t n))) ∙ pick (covers j.filenumbers f p (theirs j t n))
     where
-      pick : (b : Bool) → or_else (cond b (source_of j.journal log t p (Record n)) file) (source_of j.journal log t p
-          (supplier j t n f p)) ≡ source_of j.journal log t p (cond b (Record n) (supplier j t n f p))
+      pick : (b : Bool) → or_else (cond b (source_of j.journal log t p (Some n)) file) (source_of j.journal log t p
+          (supplier j t n f p)) ≡ source_of j.journal log t p (cond b (Some n) (supplier j t n f p))
       pick true = refl
       pick false = refl
 
 -- What the walk finds is the latest write over the place, where the count is that of the write records visited.
-pub latest-write : (j : Recorded) (t records f p : ℕ) (found : Supplier) (looked : ℕ) → found ≡ supplier j t records f p
-    → ((k : ℕ) → found ≡ Record k → looked ≡ records - k) → (found ≡ File → looked ≡ records)
+pub latest-write : (j : Recorded) (t records f p : ℕ) (found : Option ℕ) (looked : ℕ) → found ≡ supplier j t records f p
+    → ((k : ℕ) → found ≡ Some k → looked ≡ records - k) → (found ≡ None → looked ≡ records)
     → LatestWrite j t records f p found looked
 latest-write j t records f p found looked e some all = unfold supplier in record {
   covering = λ k s. newest-is (covered_by j t f p) records k (sym e ∙ s);
@@ -361,7 +362,7 @@ data-upto journal t k (suc n) h = ⊎_elim (λ g. omega (arith, data-suc journal
     same g = let e : suc k ≡ suc n = omega arith in rw e (omega arith)
 
 module _ (j : Recorded) (t records : ℕ) (e : Extent) (r : Run) (run : RunOf j t records e r) (k : ℕ)
-    (s : supplier j t records e.file e.place ≡ Record k) where
+    (s : supplier j t records e.file e.place ≡ Some k) where
   -- the record that supplies a run covers each of its places
   run-covers : (i : ℕ) → i < r.length → (k < records) × (covers j.filenumbers e.file (e.place + i) (theirs j t k) ≡ true)
   run-covers i l = supplier-is j t e.file records (e.place + i) k (run.same i l ∙ s)
@@ -381,7 +382,7 @@ module _ (j : Recorded) (t records : ℕ) (e : Extent) (r : Run) (run : RunOf j 
       omega (arith, starts, g.1, g.2, data-suc j.journal t k, data-upto j.journal t k records g.0)
 
   -- where its places stand in the log
-  pub run_along : (i : ℕ) → stands_at j.journal t (e.place + i) (Record k) ≡ r.at + i
+  pub run_along : (i : ℕ) → stands_at j.journal t (e.place + i) (Some k) ≡ r.at + i
   run_along i = unfold stands_at in let g = run_inside in omega (arith, starts, g.1)
 
 -- ---- what state validity says of a transaction's write records
@@ -483,7 +484,7 @@ module _ (j : Recorded) (t f : ℕ) where
       omega arith in ap (λ (i : ℕ). record_end j.filenumbers f (theirs j t i)) s ∙ (omega arith)) (le-or-lt (suc k) n)
 
   -- The file supplies every place.
-  pub supplier-none : (n : ℕ) → reach j t f 0 n ≡ 0 → (p : ℕ) → supplier j t n f p ≡ File
+  pub supplier-none : (n : ℕ) → reach j t f 0 n ≡ 0 → (p : ℕ) → supplier j t n f p ≡ None
   unfolding supplier
   supplier-none n e p = newest-only (λ k. covers j.filenumbers f p (theirs j t k)) n
       (λ k l. covers-none j.filenumbers f p (theirs j t k) (ends-none n e k l))

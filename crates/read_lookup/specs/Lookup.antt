@@ -1,6 +1,6 @@
 -- Runs of places with one supplier, and how far a transaction's file reaches; beside the latest write over a
 -- place (Latest.antt).
-use Rattle.std.specs.Prelude.{Bool, true, false, cond, List, ◌≡◌, eqb, get_or, ℕ, zero, suc, ◌+◌, ◌≤◌, ◌<◌, max}
+use Rattle.std.specs.Prelude.{Bool, true, false, cond, List, ◌≡◌, eqb, get_or, ℕ, zero, suc, ◌+◌, ◌≤◌, ◌<◌, max, Option, Some, None}
 use Rattle.limits.specs.Limits.{descriptor_count, transaction_count, record_count, log_bytes}
 use Rattle.counters.specs.declared.Used.{Used}
 use Rattle.state.specs.declared.journal.WriteRecord.{WriteRecord}
@@ -10,8 +10,6 @@ use Rattle.admission.specs.Admission.{lengths_before}
 use Rattle.spec.specs.Reading.{placed_end}
 use Rattle.read_lookup.specs.declared.Extent.{Extent}
 use Rattle.read_lookup.specs.declared.Run.{Run}
-use Rattle.read_lookup.specs.declared.Supplier.{Supplier}
-use Rattle.read_lookup.specs.declared.Supplier.TheVariants.{File, Record}
 pub use Rattle.read_lookup.specs.Latest.{Recorded, recorded, recorded_in, covered_by, LatestWrite}
 pub use Rattle.read_lookup.specs.Latest.{LatestAt}
 unfoldable pub use Rattle.read_lookup.specs.Latest.{covers, stands_at, write_in, source_of}
@@ -20,17 +18,13 @@ unfoldable pub use Rattle.read_lookup.specs.Latest.{covers, stands_at, write_in,
 abbrev pub extent : ℕ → ℕ → ℕ → Extent
 extent f p n = record { file = f; place = p; length = n }
 
-abbrev pub is_record : Supplier → Bool
-is_record File = false
-is_record (Record k) = true
-
 -- From the newest of so many records back: the first that covers the place; the file where none does.
-unfoldable pub newest : (ℕ → Bool) → ℕ → Supplier
-newest covering zero = File
-newest covering (suc k) = cond (covering k) (Record k) (newest covering k)
+unfoldable pub newest : (ℕ → Bool) → ℕ → Option ℕ
+newest covering zero = None
+newest covering (suc k) = cond (covering k) (Some k) (newest covering k)
 
 -- Who supplies place p of file f to transaction t, which has so many records.
-unfoldable pub supplier : Recorded → ℕ → ℕ → ℕ → ℕ → Supplier
+unfoldable pub supplier : Recorded → ℕ → ℕ → ℕ → ℕ → Option ℕ
 supplier j t records f p = newest (covered_by j t f p) records
 
 -- 02, F-8: "the ends of its own placed writes of at least one byte" [R-6.1]: where a write record ends in

@@ -14,9 +14,11 @@ use Rattle.standings.specs.declared.{Standing.{Standing, TheVariants.{Untouched,
 use Rattle.standings.specs.Table.{advance, settled, pointer_settles, read_settles}
 use Rattle.spec.proofs.Refinement.IndexedLists.{tabulate-same, tabulate-set, tabulate-get_d}
 use Rattle.admission.proofs.Laws.{below_all}
-use Rattle.read_settle.specs.declared.settle_call.{Verdict.TheVariants.{Settled, Past}, Settling.Settling}
+use Rattle.std.specs.Prelude.{Result, Ok, Err}
+use Rattle.state.specs.declared.outcomes.Refusal.{Refusal, TheVariants.AppendPastEnd}
 use Rattle.read_settle.specs.Choices.{settles_for_read, chosen_by_read, settles_for_pointer, chosen_by_pointer, only_one}
 use Rattle.read_settle.specs.Choices.{settles_within, all_within, settled_descriptor, settled_transaction, settling_of}
+use Rattle.read_settle.specs.Choices.{verdict_of}
 
 -- One of sixteen is chosen, or none.
 pub one-chosen : (d : ℕ) (b : Bool) → d < descriptor_count → set (replicate 16 false) d b
@@ -164,38 +166,45 @@ module _ (chosen : List Bool) (offsets : List ℕ) (x : Transaction) where
       → settles_within chosen offsets x n ≡ false
   within-past n e h = unfold settles_within in rw (e, lt-leb (get_or offsets n 0 + advance (standing_at x n)) file_bytes h)
 
+  -- The answer with a transaction.
+  abbrev pub settled_as : Transaction → Result Transaction Refusal
+  settled_as y = Ok y
+
   -- Where nothing is chosen, nothing changes.
   pub settling-none : ((e : ℕ) → e < descriptor_count → get_or chosen e false ≡ false) → length x.descriptors ≡ 16
-      → settling_of chosen offsets x ≡ record { verdict = Settled; transaction = x }
+      → settling_of chosen offsets x ≡ Ok x
   unfolding settling_of all_within settled_transaction settled_descriptor
   settling-none none l = rw (below_all (settles_within chosen offsets x) 16 (λ e h. within-preserved e (none e h)))
-      (ap (λ (ds : List Descriptor). record { verdict = Settled; transaction = with_descriptors ds x })
+      (ap (λ (ds : List Descriptor). settled_as (with_descriptors ds x))
       (tabulate-same (settled_descriptor chosen offsets x) (λ e. record { standing = standing_at x e; dirty = dirty_at x e })
       16 (λ e h. rw (none e h)) ∙ ap (tabulate (λ e. get_or x.descriptors e no_descriptor)) (sym l)
       ∙ tabulate-get_d x.descriptors no_descriptor))
 
 -- What the verdict tells.
 module _ (chosen : List Bool) (offsets : List ℕ) (x : Transaction) where
-  verdict : Bool → Settling
-  verdict b = cond b (record { verdict = Settled; transaction = settled_transaction chosen offsets x })
-      (record { verdict = Past; transaction = x })
+  abbrev settling : Bool → Result Transaction Refusal
+  settling b = cond b (Ok (settled_transaction chosen offsets x)) (Err AppendPastEnd)
 
-  pub verdict-past : (settling_of chosen offsets x).verdict ≡ Past → all_within chosen offsets x ≡ false
-  unfolding settling_of verdict
-  verdict-past e = pick (all_within chosen offsets x) e
+  pub verdict-past : (r : Refusal) → verdict_of (settling_of chosen offsets x) ≡ Err r → all_within chosen offsets x ≡ false
+  unfolding settling_of
+  verdict-past r e = pick (all_within chosen offsets x) e
     where
-      pick : (b : Bool) → (verdict b).verdict ≡ Past → b ≡ false
+      pick : (b : Bool) → verdict_of (settling b) ≡ Err r → b ≡ false
       pick true q = cc
       pick false q = refl
 
-  pub verdict-settled : (settling_of chosen offsets x).verdict ≡ Settled → all_within chosen offsets x ≡ true
-  unfolding settling_of verdict
+  pub verdict-settled : verdict_of (settling_of chosen offsets x) ≡ Ok tt → all_within chosen offsets x ≡ true
+  unfolding settling_of
   verdict-settled e = pick (all_within chosen offsets x) e
     where
-      pick : (b : Bool) → (verdict b).verdict ≡ Settled → b ≡ true
+      pick : (b : Bool) → verdict_of (settling b) ≡ Ok tt → b ≡ true
       pick true q = refl
       pick false q = cc
 
-  pub transaction-settled : (settling_of chosen offsets x).verdict ≡ Settled
-      → (settling_of chosen offsets x).transaction ≡ settled_transaction chosen offsets x
-  transaction-settled e = unfold settling_of verdict in ap (λ (b : Bool). (verdict b).transaction) (verdict-settled e)
+  pub transaction-settled : (y : Transaction) → settling_of chosen offsets x ≡ Ok y → y ≡ settled_transaction chosen offsets x
+  unfolding settling_of
+  transaction-settled y e = pick (all_within chosen offsets x) e
+    where
+      pick : (b : Bool) → settling b ≡ Ok y → y ≡ settled_transaction chosen offsets x
+      pick true q = cc
+      pick false q = cc

@@ -13,8 +13,10 @@ use Rattle.state.proofs.LayoutLaws.{transaction-of, descriptor-of, length-with-c
 use Rattle.admission.{specs.Admission.standing_in, proofs.Laws.below_at}
 use Rattle.spec.proofs.Refinement.StandingRanges.{settled-in}
 use Rattle.refinement.proofs.{Shapes.sixteen-descriptors, Fitting.standing-fits}
-use Rattle.read_settle.specs.declared.settle_call.{Verdict.TheVariants.{Settled, Past}, Settling.Settling}
+use Rattle.std.specs.Prelude.{Result, Ok, Err}
+use Rattle.state.specs.declared.outcomes.Refusal.{Refusal}
 use Rattle.read_settle.specs.Choices.{settles_within, all_within, settled_descriptor, settled_transaction, settling_of}
+use Rattle.read_settle.specs.Choices.{verdict_of}
 use Rattle.read_settle.specs.{Records.{Placeable, PlacedIn}, Outcome.SettledIn}
 use Rattle.read_settle.proofs.ChoiceLaws.{settling-none, verdict-settled, transaction-settled}
 use Rattle.read_settle.proofs.RecordLaws.{placed-preserved}
@@ -37,40 +39,40 @@ module _ (chosen : List Bool) (t : ℕ) (before : List ℕ) (ready : Placeable b
   own-again = rw (sym (transaction-of before t ready.small), set-get_or (store_of before).transactions t no_transaction)
 
   -- None was chosen.
-  pub none-settled : ((e : ℕ) → e < descriptor_count → get_or chosen e false ≡ false) → SettledIn chosen t x before before Settled
+  pub none-settled : ((e : ℕ) → e < descriptor_count → get_or chosen e false ≡ false) → SettledIn chosen t x before before (Ok tt)
   none-settled none = let e = settling-none chosen offsets x none (sixteen-descriptors before t) in
-      let settled : (settling_of chosen offsets x).verdict ≡ Settled = ap (λ (r : Settling). r.verdict) e in record {
-        verdict = sym settled;
-        refused = λ v. refl;
+      record {
+        verdict = sym (ap verdict_of e);
+        refused = λ r v. refl;
         store = λ v. sym own-again ∙ ap (λ (y : Transaction). with_transaction t y (store_of before))
-            (sym (ap (λ (r : Settling). r.transaction) e) ∙ transaction-settled chosen offsets x settled);
+            (transaction-settled chosen offsets x x e);
         journal = λ v. (placed-preserved chosen t before ready.long x.used.records ready.descriptors none).journal;
         long = ready.long;
       }
 
-  module _ (r : Settling) (answer : r ≡ settling_of chosen offsets x) where
+  module _ (r : Result Transaction Refusal) (answer : r ≡ settling_of chosen offsets x) where
     -- One of the chosen would come past the end.
-    pub past-settled : r.verdict ≡ Past → SettledIn chosen t x before before Past
-    past-settled e = record {
-      verdict = sym e ∙ ap (λ (r : Settling). r.verdict) answer;
-      refused = λ v. refl;
+    pub past-settled : (e : Refusal) → r ≡ Err e → SettledIn chosen t x before before (Err e)
+    past-settled e is = record {
+      verdict = ap verdict_of (sym is ∙ answer);
+      refused = λ s v. refl;
       store = λ v. cc;
       journal = λ v. cc;
       long = ready.long;
     }
 
     -- All of them were settled.
-    module _ (settled : r.verdict ≡ Settled) where
-      verdict-is : Settled ≡ (settling_of chosen offsets x).verdict
-      verdict-is = sym settled ∙ ap (λ (r : Settling). r.verdict) answer
+    module _ (then : Transaction) (settled : r ≡ Ok then) where
+      verdict-is : Ok tt ≡ verdict_of (settling_of chosen offsets x)
+      verdict-is = ap verdict_of (sym settled ∙ answer)
 
       abbrev pub then_of : ℕ → Descriptor
-      then_of e = get_or r.transaction.descriptors e no_descriptor
+      then_of e = get_or then.descriptors e no_descriptor
 
       pub then_is : (e : ℕ) → e < descriptor_count → then_of e ≡ settled_descriptor chosen offsets x e
       unfolding settled_transaction
       then_is e h = ap (λ (y : Transaction). get_or y.descriptors e no_descriptor)
-          (ap (λ (r : Settling). r.transaction) answer ∙ transaction-settled chosen offsets x (sym verdict-is))
+          (transaction-settled chosen offsets x then (sym answer ∙ settled))
           ∙ get_d_tabulate (settled_descriptor chosen offsets x) 16 e no_descriptor h
 
       -- What is put has room in the record: settled, by its test against 4,096; left, by check 2.
@@ -92,10 +94,10 @@ module _ (chosen : List Bool) (t : ℕ) (before : List ℕ) (ready : Placeable b
             (sym own-placed ∙ transaction-of placed t ready.small) ∙ descriptor-of placed t e h)
 
         pub all_settled : after ≡ with_chosen_at placed t (λ e. get_or chosen e false) then_of 16
-            → SettledIn chosen t x before after Settled
+            → SettledIn chosen t x before after (Ok tt)
         all_settled put = unfold settled_transaction in record {
           verdict = verdict-is;
-          refused = λ v. cc;
+          refused = λ r v. cc;
           store = λ v. ap store_of put ∙ store-with-chosen placed t (λ e. get_or chosen e false) then_of p.long ready.small
               not_chosen ∙ ap₂ (λ (y : Transaction) (s : StoreMeaning). with_transaction t (with_descriptors
               (tabulate then_of 16) y) s) own-placed p.store ∙ ap (λ (ds : List Descriptor). with_transaction t

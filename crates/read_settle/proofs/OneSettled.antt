@@ -13,7 +13,8 @@ use Rattle.state.{specs.Updates.{StandingFits, with_descriptor_at, with_chosen_a
 use Rattle.admission.proofs.Laws.{below_all, below_fails}
 use Rattle.spec.proofs.Refinement.StandingRanges.{settled-in}
 use Rattle.refinement.proofs.Fitting.{standing-fits}
-use Rattle.read_settle.specs.declared.settle_call.{Verdict.TheVariants.{Settled, Past}, Settling.Settling}
+use Rattle.std.specs.Prelude.{Result, Ok, Err}
+use Rattle.state.specs.declared.outcomes.Refusal.{Refusal, TheVariants.AppendPastEnd}
 use Rattle.read_settle.specs.Choices.{only_one, settles_within, all_within, settled_descriptor, settled_transaction, settling_of}
 use Rattle.read_settle.specs.{Records.{Placeable, PlacedIn}, Outcome.SettledIn}
 use Rattle.read_settle.proofs.ChoiceLaws.{within-preserved, within-settled, within-past}
@@ -58,10 +59,10 @@ module _ (t d : ℕ) (before : List ℕ) (ready : Placeable before t (transactio
   is-other e h ne = get_d_tabulate (λ e. eqb e d) descriptor_count e false h ∙ ne_eqb e d ne
 
   -- It would come past the end.
-  pub one-past : file_bytes < get_or offsets d 0 + advance (standing_at x d) → SettledIn (only_one d) t x before before Past
-  one-past h = past-settled (only_one d) t before ready (record { verdict = Past; transaction = x }) answer refl
+  pub one-past : file_bytes < get_or offsets d 0 + advance (standing_at x d) → SettledIn (only_one d) t x before before (Err AppendPastEnd)
+  one-past h = past-settled (only_one d) t before ready (Err AppendPastEnd) answer AppendPastEnd refl
     where
-      answer : ◌≡◌ {A = Settling} (record { verdict = Past; transaction = x }) (settling_of (only_one d) offsets x)
+      answer : ◌≡◌ {A = Result Transaction Refusal} (Err AppendPastEnd) (settling_of (only_one d) offsets x)
       answer = unfold settling_of all_within in
           rw (below_fails (settles_within (only_one d) offsets x) d 16 few (within-past (only_one d) offsets x d is_one h))
 
@@ -73,8 +74,11 @@ module _ (t d : ℕ) (before : List ℕ) (ready : Placeable before t (transactio
         pick true q = ap (settles_within (only_one d) offsets x) (eqb-true e d q) ∙ within-settled (only_one d) offsets x d h
         pick false q = within-preserved (only_one d) offsets x e (is-other e l (eqb-false e d q))
 
-    abbrev answered : Settling
-    answered = record { verdict = Settled; transaction = settled_transaction (only_one d) offsets x }
+    abbrev then : Transaction
+    then = settled_transaction (only_one d) offsets x
+
+    abbrev answered : Result Transaction Refusal
+    answered = Ok then
 
     answer : answered ≡ settling_of (only_one d) offsets x
     answer = unfold settling_of all_within in rw (below_all (settles_within (only_one d) offsets x) 16 within-one)
@@ -97,11 +101,11 @@ module _ (t d : ℕ) (before : List ℕ) (ready : Placeable before t (transactio
       put_is = ap₂ (λ (z : Standing) (b : Bool). record { standing = z; dirty = b }) goes_to
           (ap (λ (p : Descriptor). p.dirty) own_is) ∙ ap (λ (b : Bool). record
           { standing = cond b (settled (get_or offsets d 0) (standing_at x d)) (standing_at x d); dirty = dirty_at x d })
-          (sym is_one) ∙ sym (then_is (only_one d) t before ready answered answer refl d few)
+          (sym is_one) ∙ sym (then_is (only_one d) t before ready answered answer then refl d few)
 
       pub one-settled : (placed after : List ℕ) → PlacedIn (only_one d) t x.used.records before placed
           → after ≡ with_descriptor_at placed t d (record { standing = y; dirty = q.dirty })
-          → SettledIn (only_one d) t x before after Settled
-      one-settled placed after p put = all_settled (only_one d) t before ready answered answer refl placed after p (put
+          → SettledIn (only_one d) t x before after (Ok tt)
+      one-settled placed after p put = all_settled (only_one d) t before ready answered answer then refl placed after p (put
           ∙ ap (with_descriptor_at placed t d) put_is ∙ sym (one-put placed t d (λ e. get_or (settled_transaction (only_one d)
           offsets x).descriptors e no_descriptor) (λ e. get_or (only_one d) e false) is_one is-other 16 few (omega arith)))

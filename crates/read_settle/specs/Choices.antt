@@ -1,6 +1,6 @@
 -- Settling on the state: which descriptors a call settles, and the transaction afterwards. Lists have an
 -- element for each of the sixteen descriptors.
-use Rattle.std.specs.Prelude.{Bool, false, cond, not, ◌&&◌, ◌||◌, List, leb, eqb, get_or, ℕ, ◌+◌}
+use Rattle.std.specs.Prelude.{Bool, false, cond, not, ◌&&◌, ◌||◌, List, leb, eqb, get_or, ℕ, ◌+◌, Result, Ok, Err, ⊤}
 use Rattle.limits.specs.Limits.{file_bytes, descriptor_count}
 use Rattle.buffers.specs.Parts.{tabulate}
 use Rattle.state.specs.declared.Descriptor.{Descriptor}
@@ -8,8 +8,8 @@ use Rattle.state.specs.declared.Transaction.{Transaction}
 use Rattle.state.specs.StoreMeaning.{standing_at, dirty_at, with_descriptors}
 use Rattle.admission.specs.FirstRefusal.{below}
 use Rattle.standings.specs.Table.{pointer_settles, read_settles, advance, settled}
-use Rattle.read_settle.specs.declared.settle_call.Verdict.TheVariants.{Settled, Past}
-use Rattle.read_settle.specs.declared.settle_call.Settling.{Settling}
+use Rattle.state.specs.declared.outcomes.Refusal.{Refusal}
+use Rattle.state.specs.declared.outcomes.Refusal.TheVariants.{AppendPastEnd}
 
 -- "Before a Read through descriptor d fetches bytes, it settles every descriptor of d's file that stands
 -- Deferred or Moved, and d if Untouched" [R-4.4]: the files of the descriptors, and the transaction.
@@ -30,10 +30,6 @@ chosen_by_pointer x d = tabulate (settles_for_pointer x d) descriptor_count
 -- Descriptor d alone.
 abbrev pub only_one : ℕ → List Bool
 only_one d = tabulate (λ e. eqb e d) descriptor_count
-
--- Those that a Read through d settles or, where `reads` is false, a GetFilePointer on it.
-abbrev pub chosen_by : Bool → List ℕ → Transaction → ℕ → List Bool
-chosen_by reads filenumbers x d = cond reads (chosen_by_read filenumbers x d) (chosen_by_pointer x d)
 
 -- 12: "settling .. takes committed offset plus advance above 4,096" [R-16.1]. Every chosen descriptor passes.
 unfoldable pub settles_within : List Bool → List ℕ → Transaction → ℕ → Bool
@@ -58,8 +54,11 @@ settled_transaction chosen offsets x =
     with_descriptors (tabulate (settled_descriptor chosen offsets x) descriptor_count) x
 
 -- Every chosen descriptor is settled, or none is.
-unfoldable pub settling_of : List Bool → List ℕ → Transaction → Settling
+unfoldable pub settling_of : List Bool → List ℕ → Transaction → Result Transaction Refusal
 settling_of chosen offsets x =
-    cond (all_within chosen offsets x)
-    (record { verdict = Settled; transaction = settled_transaction chosen offsets x })
-    (record { verdict = Past; transaction = x })
+    cond (all_within chosen offsets x) (Ok (settled_transaction chosen offsets x)) (Err AppendPastEnd)
+
+-- Whether they are, without the transaction.
+abbrev pub verdict_of : Result Transaction Refusal → Result ⊤ Refusal
+verdict_of (Ok y) = Ok tt
+verdict_of (Err r) = Err r

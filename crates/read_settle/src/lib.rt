@@ -3,24 +3,25 @@
 #![tactic(auto)]
 
 mod records;
-pub mod settle_call;
+mod settle_call;
 
 ghost use Rattle.std.specs.Prelude.{true, false, ◌≡◌, ℕ, ◌<◌, get_or};
 ghost use Rattle.limits.specs.Limits.{descriptor_count, transaction_count};
 ghost use Rattle.standings.specs.Table.{read_settles};
 ghost use Rattle.state.specs.StoreMeaning.{standing_at};
 ghost use Rattle.state.specs.Layout.{transaction_of, store_of};
-ghost use Rattle.read_settle.specs.Choices.{chosen_by_read, chosen_by_pointer, chosen_by, only_one};
+ghost use Rattle.read_settle.specs.Choices.{chosen_by_read, chosen_by_pointer, only_one};
 ghost use Rattle.read_settle.specs.Records.{Placeable};
 ghost use Rattle.read_settle.specs.Outcome.{SettledIn};
 
 use crate::records::place_records;
-use crate::settle_call::{Verdict, chosen_by, settle};
+use crate::settle_call::{chosen_by_pointer, chosen_by_read, settle};
 use limits::FILE_END;
 use state::layout::{
     State, descriptor_at, offset_at, put_chosen, put_descriptor, standing_at, transaction_at,
     used_at,
 };
+use state::outcomes::Refusal;
 use state::readers::read_settles_at;
 use state::{DESCRIPTORS, Descriptor};
 
@@ -28,62 +29,37 @@ use state::{DESCRIPTORS, Descriptor};
 fn any(chosen: [bool; DESCRIPTORS]) -> bool
     ensures { result ≡ false → (e : ℕ) → e < descriptor_count → get_or chosen e false ≡ false }
 {
-    let mut found = false;
-    let mut e = 0;
-    while e < DESCRIPTORS {
-        found = found | chosen[e];
-        e += 1;
-    }
-    found
+    chosen.iter().any(|c| *c)
 }
 
 // Settles every chosen descriptor of transaction t in the state, or none. The transaction is read whole only
 // where one is chosen.
-fn settle_chosen(state: &mut State, t: usize, chosen: [bool; DESCRIPTORS]) -> Verdict
+fn settle_chosen(state: &mut State, t: usize, chosen: [bool; DESCRIPTORS]) -> Result<(), Refusal>
     requires { Placeable state.old t (transaction_of state.old t).used.records }
     ensures { SettledIn chosen t (transaction_of state.old t)
         state.old state.new result }
 {
     if !any(chosen) {
-        return Verdict::Settled;
+        return Ok(());
     }
     let x = transaction_at(state, t);
-    let a = settle(state, x, chosen);
-    let v = a.verdict;
-    let Verdict::Settled = v else {
-        return Verdict::Past;
-    };
-    let y = a.transaction;
-    let all = y.descriptors;
+    let y = settle(state, x, chosen)?;
     place_records(state, t, x.used.records, chosen);
-    put_chosen(state, t, chosen, all);
-    Verdict::Settled
-}
-
-// Settles the descriptors of transaction t that a Read through d settles, or a GetFilePointer on d.
-fn settle_by(state: &mut State, t: usize, d: usize, reads: bool) -> Verdict
-    requires ready { Placeable state.old t (transaction_of state.old t).used.records }
-    requires few { d < descriptor_count }
-    ensures { SettledIn
-        (chosen_by reads (store_of state.old).filenumbers (transaction_of state.old t) d)
-        t (transaction_of state.old t) state.old state.new result }
-{
-    let chosen = chosen_by(state, t, d, reads);
-    settle_chosen(state, t, chosen)
+    put_chosen(state, t, chosen, y.descriptors);
+    Ok(())
 }
 
 // Settles descriptor d of transaction t alone, if it can be.
-fn settle_one(state: &mut State, t: usize, d: usize) -> Verdict
+fn settle_one(state: &mut State, t: usize, d: usize) -> Result<(), Refusal>
     requires ready { Placeable state.old t (transaction_of state.old t).used.records }
     requires few { d < descriptor_count }
     ensures { SettledIn (only_one d)
         t (transaction_of state.old t) state.old state.new result }
 {
     let q = descriptor_at(state, t, d);
-    let standing = q.standing;
     let c = offset_at(state, d);
-    if FILE_END - c < standing.advance() {
-        return Verdict::Past;
+    if FILE_END - c < q.standing.advance() {
+        return Err(Refusal::AppendPastEnd);
     }
     let used = used_at(state, t);
     let mut chosen = [false; DESCRIPTORS];
@@ -94,11 +70,11 @@ fn settle_one(state: &mut State, t: usize, d: usize) -> Verdict
         t,
         d,
         Descriptor {
-            standing: standing.settled(c),
+            standing: q.standing.settled(c),
             dirty: q.dirty,
         },
     );
-    Verdict::Settled
+    Ok(())
 }
 
 // Whether a descriptor of transaction t may wait for its place, of whatever file: where this says no, none
@@ -109,16 +85,14 @@ fn any_waits(state: &State, t: usize) -> bool
         → read_settles true false (standing_at (transaction_of state.now t) e) ≡ false }
 {
     let mut found = false;
-    let mut e = 0;
-    while e < DESCRIPTORS {
-        found = found | read_settles_at(state, t, e, true, false);
-        e += 1;
+    for e in 0..DESCRIPTORS {
+        found |= read_settles_at(state, t, e, true, false);
     }
     found
 }
 
 // Settles what a Read through d settles in transaction t. The choice is made only where a descriptor waits.
-pub fn settle_for_read(state: &mut State, t: usize, d: usize) -> Verdict
+pub fn settle_for_read(state: &mut State, t: usize, d: usize) -> Result<(), Refusal>
     requires ready { Placeable state.old t (transaction_of state.old t).used.records }
     requires few { d < descriptor_count }
     ensures { SettledIn
@@ -126,16 +100,17 @@ pub fn settle_for_read(state: &mut State, t: usize, d: usize) -> Verdict
         t (transaction_of state.old t) state.old state.new result }
 {
     if any_waits(state, t) {
-        return settle_by(state, t, d, true);
+        let chosen = chosen_by_read(state, t, d);
+        return settle_chosen(state, t, chosen);
     }
     if !read_settles_at(state, t, d, false, true) {
-        return Verdict::Settled;
+        return Ok(());
     }
     settle_one(state, t, d)
 }
 
 // Settles what a GetFilePointer on d settles in transaction t: d, where its place is unknown.
-pub fn settle_for_pointer(state: &mut State, t: usize, d: usize) -> Verdict
+pub fn settle_for_pointer(state: &mut State, t: usize, d: usize) -> Result<(), Refusal>
     requires ready { Placeable state.old t (transaction_of state.old t).used.records }
     requires few { d < descriptor_count }
     ensures { SettledIn (chosen_by_pointer (transaction_of state.old t) d)
@@ -143,10 +118,11 @@ pub fn settle_for_pointer(state: &mut State, t: usize, d: usize) -> Verdict
 {
     let standing = standing_at(state, t, d);
     if !standing.pointer_settles() {
-        return Verdict::Settled;
+        return Ok(());
     }
     if standing.is_touched() {
-        return settle_by(state, t, d, false);
+        let chosen = chosen_by_pointer(state, t, d);
+        return settle_chosen(state, t, chosen);
     }
     settle_one(state, t, d)
 }

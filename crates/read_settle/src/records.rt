@@ -1,7 +1,6 @@
 // The write records of a transaction after descriptors of it are settled.
 ghost use Rattle.read_settle.specs.Records.{Placeable, PlacedIn};
 
-use limits::wide;
 use standings::Place;
 use state::DESCRIPTORS;
 use state::journal::{WriteRecord, put_record, record_at};
@@ -12,12 +11,10 @@ pub fn place_records(state: &mut State, t: usize, records: usize, chosen: [bool;
     requires { Placeable state.old t records }
     ensures { PlacedIn chosen t records state.old state.new }
 {
-    let mut k = 0;
-    while k < records {
+    for k in 0..records {
         let w = record_at(state, t, k);
-        let place = w.place;
-        if let Place::After(a) = place {
-            let d = wide(w.descriptor);
+        if let Place::After(a) = w.place {
+            let d = usize::from(w.descriptor);
             if chosen[d] {
                 let c = offset_at(state, d);
                 put_record(
@@ -25,13 +22,11 @@ pub fn place_records(state: &mut State, t: usize, records: usize, chosen: [bool;
                     t,
                     k,
                     WriteRecord {
-                        descriptor: w.descriptor,
                         place: Place::At(c + a),
-                        length: w.length,
+                        ..w
                     },
                 );
             }
         }
-        k += 1;
     }
 }

@@ -1,14 +1,15 @@
 -- The rules of a call after each of its tests: refused, or let through.
+use Rattle.std.specs.declared.result.Result.TheVariants.{Ok, Err}
 use mathlib.Core.{Bool.{Bool, true, false, cond, not}, List.{List, []}, Path.{◌≡◌, refl, sym, ap, ◌∙◌}}
 use native.Mathlib.Omega.{arith}
 use Prim.Native.Nat.{ℕ, ◌<◌}
 use Rattle.limits.specs.Limits.{transaction_count}
-use Rattle.state.specs.declared.{StoreMeaning.StoreMeaning, outcomes.{Refusal.Refusal, Outcome.TheVariants.{Done, Refused}}}
+use Rattle.state.specs.declared.{StoreMeaning.StoreMeaning, outcomes.{Refusal.Refusal, Answer.TheVariants.{Done}}}
 use Rattle.state.specs.{declared.Transaction.Transaction, StoreMeaning.{transaction, with_transaction}}
 use Rattle.state.{specs.Layout.{transaction_of, store_of}, proofs.LayoutLaws.transaction-of}
 use Rattle.state.specs.Outcomes.{Said, done_answer, number, said}
 use Rattle.buffers.specs.Marks.{without_marks}
-use Rattle.admission.specs.declared.{Gate.{Gate, TheVariants.{Pass, Refused as GateRefused}}}
+use Rattle.admission.specs.Admission.{Gate}
 use Rattle.admission.specs.{Admission.{shared, admission, admission_of_begin, gate_number}, FirstRefusal.unless}
 use Rattle.admission.proofs.Laws.{failed, test-held, number-suc, Admitted, shared-zero, shared-passed, shared-refused}
 use Rattle.spec.specs.{Items.{Prog, done, result, asked}, Transactions.Txn, Messages.{Op, buffer_of, on}}
@@ -33,25 +34,44 @@ pub passing-number : (r : Refusal) (buffer : List ℕ) (m : Machine) (next : Tur
 passing-number r buffer m next = unfold passing in rw (number-suc r).1
 
 module _ (g : Gate) (n : ℕ) (says : gate_number g ≡ n) where
-  pub gate-number : (r : Refusal) → g ≡ GateRefused r → number r ≡ n
+  pub gate-number : (r : Refusal) → g ≡ Err r → number r ≡ n
   gate-number r e = unfold gate_number in sym (ap gate_number e) ∙ says
 
-  pub gate-zero : g ≡ Pass → n ≡ 0
+  pub gate-zero : g ≡ Ok tt → n ≡ 0
   gate-zero e = unfold gate_number in sym says ∙ ap gate_number e
+
+  pub gate-turned : (r : Refusal) (buffer : List ℕ) (m : Machine) (next : Turn) → g ≡ Err r
+      → passing n buffer m next ≡ refuse_turn (number r) buffer m
+  gate-turned r buffer m next e =
+      ap (λ (k : ℕ). passing k buffer m next) (sym (gate-number r e)) ∙ passing-number r buffer m next
+
+-- A call of transaction t that tests 1 to 3 have let through.
+pub record Passed (m : Machine) (t : ℕ) : Type 0 where
+  pub tests : shared_with m t 0 ≡ 0
+  pub through : LetThrough m t
+
+-- One of an open transaction.
+pub record Entered (m : Machine) (t : ℕ) : Type 0 where
+  pub through : LetThrough m t
+  pub begun : (transaction m.store t).begun ≡ true
+  pub admits : admission (sizes m) m.store m.journal t ≡ 0
 
 -- What the gate says of tests 1 to 3 holds before any later test.
 module _ (g : Gate) (m : Machine) (t : ℕ) (says : gate_number g ≡ shared_with m t 0) where
-  pub gate-refused : (later : ℕ) (r : Refusal) (buffer : List ℕ) (next : Turn) → g ≡ GateRefused r
+  pub gate-refused : (later : ℕ) (r : Refusal) (buffer : List ℕ) (next : Turn) → g ≡ Err r
       → passing (shared_with m t later) buffer m next ≡ refuse_turn (number r) buffer m
   gate-refused later r buffer next e = unfold gate_number in let n = number-suc r in
       ap (λ (k : ℕ). passing k buffer m next) (shared-refused (sizes m) m.store m.journal t later (number r)
       (sym (ap gate_number e) ∙ says) (let q = n.1 in omega arith)) ∙ passing-number r buffer m next
 
-  pub gate-passed : g ≡ Pass → shared_with m t 0 ≡ 0
+  pub gate-passed : g ≡ Ok tt → shared_with m t 0 ≡ 0
   gate-passed e = unfold gate_number in sym says ∙ ap gate_number e
 
-  pub gate-let-through : g ≡ Pass → LetThrough m t
+  pub gate-let-through : g ≡ Ok tt → LetThrough m t
   gate-let-through e = (shared-zero (sizes m) m.store m.journal t 0 (gate-passed e)).0
+
+  pub gate-passes : g ≡ Ok tt → Passed m t
+  gate-passes e = record { tests = gate-passed e; through = gate-let-through e }
 
 -- Then the call's own test, open or not.
 module _ (m : Machine) (t : ℕ) (passes : shared_with m t 0 ≡ 0) where
@@ -79,25 +99,31 @@ module _ (state : List ℕ) (t : ℕ) (small : t < transaction_count) {r : Bool}
   pub is-closed : not r ≡ true → (transaction (store_of state) t).begun ≡ false
   is-closed h = ap (λ (x : Transaction). x.begun) (transaction-of state t small) ∙ failed reads h
 
+pub entered : {m : Machine} {t : ℕ} → Passed m t → (state : List ℕ) → m.store ≡ store_of state
+    → {r : Bool} → r ≡ (transaction_of state t).begun → not r ≡ false → Entered m t
+entered {m} {t} p state e reads h =
+    let begun = ap (λ (s : StoreMeaning). (transaction s t).begun) e ∙ is_open state t p.through.small reads h in
+    record { through = p.through; begun = begun; admits = admission-open m t p.tests begun }
+
 pub passing-on : (n : ℕ) (buffer : List ℕ) (m : Machine) (next : Turn) → n ≡ 0 → passing n buffer m next ≡ next
 passing-on n buffer m next e = unfold passing in rw e
 
 -- A call that was refused and left the state alone, where the rules refuse it.
 pub turned-follows : (r : Refusal) (buffer state files logs marks undo : List ℕ) (w : Turn)
     → w ≡ refuse_turn (number r) buffer (machine_of state files logs marks undo)
-    → Meets w (Refused r) (machine_of state files logs marks undo) buffer × LeftAsFound (Refused r) state state
+    → Meets w (Err r) (machine_of state files logs marks undo) buffer × LeftAsFound (Err r) state state
 turned-follows r buffer state files logs marks undo w e = unfold refuse_turn said in
     (rw e (record { outcome = refl; machine = refl; reader = refl }), λ q f n. refl)
 
 -- A call that answers plainly is no refusal.
-pub done-follows : (before after : List ℕ) → LeftAsFound Done before after
+pub done-follows : (before after : List ℕ) → LeftAsFound (Ok Done) before after
 done-follows before after r e n = cc
 
 -- ---- Begin and Abort: a transaction replaced, its marks cleared
 
 pub reset-meets : (t : ℕ) (x : Transaction) (m : Machine) (w : Turn) → w ≡ answer_with done_answer (reset t x m)
     → (s : StoreMeaning) (marks : List ℕ) → s ≡ with_transaction t x m.store → marks ≡ without_marks t m.marks
-    → Meets w Done (with_store s (with_marking marks m)) []
+    → Meets w (Ok Done) (with_store s (with_marking marks m)) []
 reset-meets t x m w e s marks f g = unfold answer_with reset said in rw (e, f) (record {
   outcome = refl;
   machine = ap (λ (l : List ℕ). with_store (with_transaction t x m.store) (with_marking l m)) g;

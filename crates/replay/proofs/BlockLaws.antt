@@ -14,5 +14,5 @@ module _ (bytes state : List ℕ) (i : ℕ) (front : take i state ≡ tabulate (
   word_more v h q = ap (λ (k : ℕ). take k (set state i v)) (add-one i) ∙ take-suc-set state i v h
       ∙ ap₂ (λ (l : List ℕ) (x : ℕ). l ++ (x ∷ [])) front q ∙ sym (ap (tabulate (block_word_at bytes)) (add-one i))
 
-  pub words-all : i ≡ state_length → length state ≡ state_length → state ≡ state_of_block bytes
-  words-all e l = unfold state_of_block in sym (take_all i state (omega arith)) ∙ front ∙ ap (tabulate (block_word_at bytes)) e
+  pub words_all : i ≡ state_length → length state ≡ state_length → state ≡ state_of_block bytes
+  words_all e l = unfold state_of_block in sym (take_all i state (omega arith)) ∙ front ∙ ap (tabulate (block_word_at bytes)) e

@@ -1,8 +1,8 @@
 -- Laws for this crate's proofs. Assumes nothing.
-use mathlib.Core.{Bool.{Bool, true, false, ◌&&◌, false≢true}, List.{List, []}, Path.{◌≡◌, refl, ap, ap₂, ◌∙◌}}
-use lib.ListN.{length, drop, length-take}
+use mathlib.Core.{Bool.{Bool, true, false, ◌&&◌, false≢true}, List.{List, []}, Path.{◌≡◌, refl, ap₂, ◌∙◌}}
 use native.Mathlib.Omega.{arith}
 use Prim.Native.Nat.{ℕ, ◌-◌, ◌≤◌}
+use Rattle.std.specs.Prelude.{is_some}
 use Rattle.buffers.specs.Parts.{cut}
 use Rattle.spec.specs.Machine.{Machine}
 use Rattle.text_log.{specs.Replay.{ReplayState, replaying}, proofs.TruncatedLines.ended-answered}
@@ -11,10 +11,6 @@ use Rattle.text_replay.specs.{Bounds.AnswerIn, Turns.replay_state_in, declared.a
 use Rattle.text_replay_pieces.specs.Bounds.{PiecesResting}
 use Rattle.replay.specs.{Bounds.Flushed, WholeRun.RunEnds}
 
--- a part of a buffer
-pub part-short : (x : List ℕ) (at n : ℕ) (l : List ℕ) → x ≡ cut l at n → length x ≤ n
-part-short x at n l e = unfold cut in omega (arith, ap length e, length-take n (drop at l))
-
 pub both : (a b : Bool) → (a && b) ≡ true → (a ≡ true) × (b ≡ true)
 both true b e = (refl, e)
 both false b e = absurd (false≢true e)
@@ -22,9 +18,9 @@ both false b e = absurd (false≢true e)
 -- what is written leaves the state
 pub preserved-flushed : (p r : ReplayProgress) (m : Machine) (out : List ℕ) → Flushed p r → replay_state_in r m out
     ≡ replay_state_in p m out
-preserved-flushed p r m out f = ap₂ (λ (x : List ℕ) (y : ℕ). keeping x y r.differing r.ended)
+preserved-flushed p r m out f = ap₂ (λ (x : List ℕ) (y : ℕ). keeping x y r.differing.count (is_some r.ended))
     (ap₂ (λ (i k : ℕ). cut out i (k - i)) f.starts f.ends) f.malformed ∙ ap₂
-    (λ (x : ℕ) (y : Bool). keeping (cut out p.from (p.end - p.from)) p.malformed x y) f.differing f.ended
+    (λ (x : ℕ) (y : Bool). keeping (cut out p.from (p.end - p.from)) p.malformed.count x y) f.differing f.ended
   where
     keeping : List ℕ → ℕ → ℕ → Bool → ReplayState
     keeping answer malformed differing ended =

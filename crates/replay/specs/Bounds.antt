@@ -1,5 +1,5 @@
 -- What stays where output is written.
-use Rattle.std.specs.Prelude.{◌≡◌}
+use Rattle.std.specs.Prelude.{◌≡◌, is_some}
 use Rattle.text_replay.specs.declared.answering.ReplayProgress.{ReplayProgress}
 
 -- After output was written: none is pending, and what a line needs stays.
@@ -9,6 +9,6 @@ pub record Flushed (p r : ReplayProgress) : Type 0 where
   pub waiting : r.waiting ≡ 0
   pub starts : r.from ≡ p.from
   pub ends : r.end ≡ p.end
-  pub malformed : r.malformed ≡ p.malformed
-  pub differing : r.differing ≡ p.differing
-  pub ended : r.ended ≡ p.ended
+  pub malformed : r.malformed.count ≡ p.malformed.count
+  pub differing : r.differing.count ≡ p.differing.count
+  pub ended : is_some r.ended ≡ is_some p.ended

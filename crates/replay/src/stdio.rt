@@ -1,5 +1,6 @@
 // What the program reports on standard error.
 use std::io;
+use text_replay::answering::Tally;
 use text_stdio::{Streams, say, say_failed, say_number};
 
 // Reports that a read failed after so many lines.
@@ -19,26 +20,29 @@ pub fn say_version(streams: Streams, version: u64, line: u64) {
     say(streams, b" is not known, the run ends here\n");
 }
 
-// Reports how many lines had another form, and which was the first.
-pub fn say_malformed(streams: Streams, count: u64, first: u64) {
-    say_number(streams, b"replay: ", count);
-    say_number(
-        streams,
-        b" lines of another form (17), the first is line ",
-        first,
-    );
+// Reports how many lines of a kind there were, and which was the first.
+fn say_tally(streams: Streams, lines: Tally, kind: &[u8]) {
+    say_number(streams, b"replay: ", lines.count);
+    say_number(streams, kind, lines.first);
     say(streams, b"\n");
 }
 
-// Reports how many answers differed from those in the log, and where the first stood.
-pub fn say_differing(streams: Streams, count: u64, first: u64) {
-    say_number(streams, b"replay: ", count);
-    say_number(
+// Reports the lines of another form.
+pub fn say_malformed(streams: Streams, lines: Tally) {
+    say_tally(
         streams,
-        b" answers differ from those in the log, the first at line ",
-        first,
+        lines,
+        b" lines of another form (17), the first is line ",
     );
-    say(streams, b"\n");
+}
+
+// Reports the answers that differed from those in the log.
+pub fn say_differing(streams: Streams, lines: Tally) {
+    say_tally(
+        streams,
+        lines,
+        b" answers differ from those in the log, the first at line ",
+    );
 }
 
 // Reports that lines of another form ended in byte 13.

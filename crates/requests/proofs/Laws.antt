@@ -1,7 +1,7 @@
 -- A request that is another is performed as the other.
 use mathlib.Core.{List.List, Path.◌≡◌}
 use Prim.Native.Nat.{ℕ}
-use Rattle.state.specs.declared.outcomes.Outcome.{Outcome}
+use Rattle.state.specs.Outcomes.{Outcome}
 use Rattle.requests.specs.{declared.Request.Request, Performing.Performs}
 use Rattle.spec.specs.Machine.{Machine}
 

@@ -1,6 +1,6 @@
 -- What performing a request promises.
 use Rattle.std.specs.Prelude.{List, ◌≡◌, ℕ}
-use Rattle.state.specs.declared.outcomes.Outcome.{Outcome}
+use Rattle.state.specs.Outcomes.{Outcome}
 use Rattle.requests.specs.declared.Request.{Request}
 use Rattle.requests.specs.declared.Request.TheVariants.{Begin, Seek, Write, GetFilePointer, Read}
 use Rattle.requests.specs.declared.Request.TheVariants.{Places, Commit, Abort, SetWindow, UndoCommit}

@@ -3,7 +3,7 @@ use Rattle.std.specs.Prelude.{true, List, [], ◌∷◌, map, ◌≡◌, length,
 use Rattle.std.proofs.Math.Option.{some}
 use Rattle.limits.specs.Limits.{buffer_bytes}
 use Rattle.state.specs.declared.outcomes.Refusal.TheVariants.{Stale}
-use Rattle.state.specs.declared.outcomes.Outcome.{Outcome}
+use Rattle.state.specs.Outcomes.{Outcome}
 use Rattle.state.specs.Outcomes.{number, refused, said}
 use Rattle.spec_orders.specs.Orders.{is_in}
 use Rattle.buffers.specs.Marks.{by_byte, names, rearranged}

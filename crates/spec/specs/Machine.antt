@@ -11,7 +11,8 @@ use Rattle.state.specs.declared.journal.WriteRecord.{WriteRecord}
 use Rattle.state.specs.StoreMeaning.{transaction, standing_at, dirty_at, with_used, with_lengthmarks}
 use Rattle.state.specs.StoreMeaning.{with_descriptors, with_transaction}
 use Rattle.state.specs.Journal.{write_record_at, with_records}
-use Rattle.admission.specs.Admission.{lengths_before, Sizes, sized}
+use Rattle.admission.specs.Admission.{lengths_before, sized}
+use Rattle.admission.specs.declared.Sizes.{Sizes}
 use Rattle.spec.specs.Items.{Item, byte, offset, file_length, Values}
 use Rattle.spec.specs.Transactions.{Txn, Write, through}
 use Rattle.spec.specs.Steps.{total}

@@ -1,8 +1,8 @@
 -- How the promises of the calls cite the rules.
+use Rattle.std.specs.declared.result.Result.TheVariants.{Err}
 use Rattle.std.specs.Prelude.{List, ◌≡◌, ℕ}
 use Rattle.state.specs.declared.outcomes.Refusal.{Refusal}
-use Rattle.state.specs.declared.outcomes.Outcome.{Outcome}
-use Rattle.state.specs.declared.outcomes.Outcome.TheVariants.{Refused}
+use Rattle.state.specs.Outcomes.{Outcome}
 use Rattle.state.specs.Outcomes.{number, said}
 use Rattle.state.specs.Layout.{store_of, journal_of}
 use Rattle.spec.specs.Machine.{Machine, lent}
@@ -47,7 +47,7 @@ handed_back state files logs marks undo =
 
 -- A refusal other than 13 leaves the state number by number, not only in what it means.
 abbrev pub LeftAsFound : Outcome → List ℕ → List ℕ → Type 0
-LeftAsFound o before after = (r : Refusal) → o ≡ Refused r → (number r ≡ 13 → ⊥) → after ≡ before
+LeftAsFound o before after = (r : Refusal) → o ≡ Err r → (number r ≡ 13 → ⊥) → after ≡ before
 
 -- The promise of a call: on what it is handed it answers o, and leaves state, buffers and reader's buffer, as
 -- the rule says.

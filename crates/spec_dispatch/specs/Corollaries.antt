@@ -1,6 +1,6 @@
 -- What follows from the statements of this crate. It is proved and used, and nobody has to believe it.
 use Rattle.std.specs.Prelude.{true, List, [], ◌∷◌, map, ◌⊎◌, ◌≡◌, length, get_or, ℕ, ◌+◌, ◌*◌, ◌≤◌}
-use Rattle.state.specs.declared.outcomes.Outcome.{Outcome}
+use Rattle.state.specs.Outcomes.{Outcome}
 use Rattle.state.specs.Outcomes.{done_answer, said}
 use Rattle.spec.specs.Messages.{Op, Call, on}
 use Rattle.spec.specs.Steps.{is_read_call}

@@ -2,7 +2,7 @@
 -- keeps its promise on what the one before left, and no more is known of it.
 use Rattle.std.specs.Prelude.{cond, List, [], ◌∷◌, ◌++◌, ◌≡◌, get_or, ℕ, ◌<◌}
 use Rattle.limits.specs.Limits.{script_count}
-use Rattle.state.specs.declared.outcomes.Outcome.{Outcome}
+use Rattle.state.specs.Outcomes.{Outcome}
 use Rattle.state.specs.Outcomes.{done_answer, said}
 use Rattle.admission.specs.FirstRefusal.{is_none}
 use Rattle.spec.specs.Messages.{Call, Reply}

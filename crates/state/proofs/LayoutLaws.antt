@@ -184,9 +184,6 @@ standing-back (Moved a o) = rw (add-one, add-two)
 standing-back (Known o) = ap Known (omega arith)
 
 -- Each standing from what its two numbers are.
-pub known-zero : (a b : ℕ) → b ≡ 1 → a ≡ 0 → Known 0 ≡ standing_of a b
-known-zero a b e f = unfold standing_of in rw (f, e)
-
 pub known_of : (a b : ℕ) → b ≡ 1 → Known (a - 1) ≡ standing_of a b
 unfolding standing_of
 known_of zero b e = rw e
@@ -212,6 +209,9 @@ moved-of zero b n1 n0 ne = absurd (ne refl)
 moved-of (suc o) zero n1 n0 ne = absurd (n0 refl)
 moved-of (suc o) (suc zero) n1 n0 ne = absurd (n1 refl)
 moved-of (suc o) (suc (suc n)) n1 n0 ne = ap₂ Moved (omega arith) (omega arith)
+
+-- What `standing_of` of src/layout.rt is proved by.
+pub ruleset standings_of = (known_of, untouched-of, placed_of, deferred-of, moved-of)
 
 module _ (r : List ℕ) (t d : ℕ) (q : Descriptor) where
   abbrev one : List ℕ

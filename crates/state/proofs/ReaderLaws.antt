@@ -1,19 +1,22 @@
 -- What the tests of src/readers.rt and src/journal.rt decide: from the record's numbers to the standings, write records and
 -- tables.
+use Rattle.std.specs.List.{slice_range}
+use Rattle.std.proofs.lemmas.List.{get_or-take, get_or-drop, length-take-le, length-drop}
 use mathlib.Core.{Bool.{Bool, true, false, not, ◌&&◌, ◌||◌}, List.List, Logic.⊎_elim, Path.{◌≡◌, refl, sym, ap, ap₂, ◌∙◌}}
-use lib.{Bits.{bit_or, or_add_and, and_le_l, and_le_r}, Dec.{leb, ltb, eqb}, ListN.get_or}
+use lib.{Bits.{bit_or, or_add_and, and_le_l, and_le_r}, Dec.{leb, ltb, eqb}, ListN.{get_or, length, drop}}
 use native.Mathlib.{Numerals.add-two, Omega.arith}
 use borrow.Author.Tests.{eqb-true, eq-eqb, ne_eqb, lt-ltb, le-ltb, le-leb, lt-leb, not-false}
 use Prim.Native.Nat.{ℕ, zero, suc, ◌+◌, ◌-◌, ◌*◌, ◌≤◌, ◌<◌}
 use Rattle.limits.specs.Limits.{file_count, descriptor_count, last_descriptor, record_count}
-use Rattle.buffers.{specs.{Below.below, Marks.contains}, proofs.BelowLaws.{below-same, below_both, below-sum}}
+use Rattle.buffers.{specs.{Below.below, Marks.contains}, proofs.BelowLaws.{below-same, below_both, below-sum, none_yet, one_more}}
 use Rattle.buffers.proofs.{MarkLaws.contains-none, PartLaws.le-or-lt}
-use Rattle.standings.specs.{declared.Standing.Standing, Table.{read_settles, advance, offset_of, is_known, may_wait}}
+use Rattle.standings.specs.{declared.Standing.Standing, Table.{read_settles, advance, offset_of, is_known, is_touched, may_wait}}
 use Rattle.state.specs.declared.{Descriptor.Descriptor, Transaction.Transaction, journal.WriteRecord.WriteRecord}
 use Rattle.state.specs.{Journal.{decoded_as, decoded, write_record_at}, WriteEnds.{place_ends_by, ends_by}}
 use Rattle.state.specs.StoreMeaning.{standing_at, dirty_at, window_at}
 use Rattle.state.specs.Layout.{number_at, standing_of, window_of, descriptor_of, transaction_of, store_of, journal_of}
 use Rattle.state.specs.Layout.{file_numbers_at, offsets_at, lengths_at, starts_at, ends_at, found_offsets_at, found_lengths_at}
+use Rattle.state.specs.Layout.{state_length, undo_valid_at}
 use Rattle.state.proofs.JournalLaws.{length-decoded}
 use Rattle.state.proofs.LayoutLaws.{record_of, descriptor-of, standing-of, file-of, offset-of, length-of, window-of}
 use Rattle.state.proofs.LayoutLaws.{found-offset-of, found-length-of}
@@ -107,10 +110,6 @@ module _ (r : List ℕ) (t d : ℕ) (few : d < descriptor_count) (b : ℕ) (is_b
     carried-decides m =
         rw is-a (carried-number own b m ∙ ap (λ (y : Standing). leb (advance y) m && leb (offset_of y) m) its-standing)
 
--- What a number is above a bound.
-pub excess-above : (x m : ℕ) → m < x → eqb (x - m) 0 ≡ leb x m
-excess-above x m h = ne_eqb (x - m) 0 (λ p. omega arith) ∙ sym (lt-leb x m h)
-
 -- Two numbers are 0 where their bits together are.
 pub or-none : (a b : ℕ) → eqb (bit_or a b) 0 ≡ eqb a 0 && eqb b 0
 or-none zero zero = let s = or_add_and 0 0 in eq-eqb (bit_or 0 0) 0 (omega arith)
@@ -125,20 +124,9 @@ pub none_above : (bad v u : ℕ) (before now : Bool) → eqb bad 0 ≡ before �
     → eqb (bit_or bad (bit_or v u)) 0 ≡ before && now
 none_above bad v u before now e f = or-none bad (bit_or v u) ∙ ap₂ ◌&&◌ e (or-none v u ∙ f)
 
--- Two or three numbers are at most their bounds where what they are above them is 0 together.
+-- Two numbers are at most their bounds where what they are above them is 0 together.
 pub two_none : (v u : ℕ) (a b : Bool) → eqb v 0 ≡ a → eqb u 0 ≡ b → eqb (bit_or v u) 0 ≡ a && b
 two_none v u a b e f = or-none v u ∙ ap₂ ◌&&◌ e f
-
-pub three-none : (v u w : ℕ) (a b c : Bool) → eqb v 0 ≡ a → eqb u 0 ≡ b → eqb w 0 ≡ c
-    → eqb (bit_or (bit_or v u) w) 0 ≡ a && b && c
-three-none v u w a b c e f g = two_none (bit_or v u) w (a && b) c (two_none v u a b e f) g
-
--- A test of a transaction where it is open, and where it is not.
-pub where-open : (b q x : Bool) → b ≡ true → x ≡ q → x ≡ not b || q
-where-open b q x e f = rw (e, f)
-
-pub where-closed : (b q : Bool) → b ≡ false → true ≡ not b || q
-where-closed b q e = rw e
 
 -- ---- the descriptors of a transaction
 
@@ -246,16 +234,50 @@ module _ (r : List ℕ) (file offset span minute : ℕ) where
       windows k = leb (get_or r (starts_at + k) 0) minute && leb (get_or r (starts_at + (8 + k)) 0) minute
 
 module _ (r : List ℕ) (m : ℕ) where
-  -- The offsets that the last grant found, and behind them the lengths.
-  pub found-decide : below (λ k. leb (get_or r (found_offsets_at + k) 0) m) 24 ≡ below (λ d. leb (get_or (store_of
-      r).undo.offsets d 0) m) descriptor_count && below (λ f. leb (get_or (store_of r).undo.lengths f 0) m) file_count
-  found-decide = rw (
-    below-same (λ d. leb (get_or (store_of r).undo.offsets d 0) m) found 16 (λ d h. rw (found-offset-of r d h)),
-    below-same (λ f. leb (get_or (store_of r).undo.lengths f 0) m) (λ k. found (16 + k)) 8 behind,
-  ) (below-sum found 16 8)
+  -- The offsets that the last grant found, and behind them the lengths, as one slice.
+  pub found-decide : length r ≡ state_length → let xs = slice_range r found_offsets_at undo_valid_at in
+      below (λ k. leb (get_or xs k 0) m) (length xs) ≡ below (λ d. leb (get_or (store_of r).undo.offsets d 0) m) descriptor_count
+      && below (λ f. leb (get_or (store_of r).undo.lengths f 0) m) file_count
+  found-decide long = let xs = slice_range r found_offsets_at undo_valid_at in let fit : 24 ≤ length (drop found_offsets_at r) =
+      simp length-drop (omega arith) in let n : length xs ≡ 24 = length-take-le 24 (drop found_offsets_at r) fit in
+      rw n (below-same (λ k. leb (get_or xs k 0) m) found 24 inside ∙ rw (
+        below-same (λ d. leb (get_or (store_of r).undo.offsets d 0) m) found 16 (λ d h. rw (found-offset-of r d h)),
+        below-same (λ f. leb (get_or (store_of r).undo.lengths f 0) m) (λ k. found (16 + k)) 8 behind,
+      ) (below-sum found 16 8))
     where
       found : ℕ → Bool
       found k = leb (get_or r (found_offsets_at + k) 0) m
 
+      inside : (k : ℕ) → k < 24 → leb (get_or (slice_range r found_offsets_at undo_valid_at) k 0) m ≡ found k
+      inside k h = ap (λ (n : ℕ). leb n m) (get_or-take 24 (drop found_offsets_at r) k 0 h ∙ get_or-drop found_offsets_at r k 0)
+
       behind : (f : ℕ) → f < file_count → leb (get_or (store_of r).undo.lengths f 0) m ≡ found (16 + f)
       behind f h = let e : found_offsets_at + (16 + f) ≡ found_lengths_at + f = omega arith in rw (found-length-of r f h, e)
+
+not-zero : (n : ℕ) → eqb (suc n) 0 ≡ false
+not-zero n = ne_eqb (suc n) 0 (λ p. omega arith)
+
+-- A standing is Untouched where both of its numbers are 0.
+pub touched_decides : (a b : ℕ) → (not (eqb a 0) || not (eqb b 0)) ≡ is_touched (standing_of a b)
+unfolding standing_of
+touched_decides zero zero = refl
+touched_decides (suc o) zero = rw (not-zero o)
+touched_decides zero (suc zero) = refl
+touched_decides (suc o) (suc zero) = rw (not-zero o)
+touched_decides zero (suc (suc n)) = rw (not-zero (suc n))
+touched_decides (suc o) (suc (suc n)) = rw (not-zero o)
+
+-- What the tests of src/readers.rt are proved by, and those of src/journal.rt.
+pub ruleset tests = (
+  none_yet,
+  one_more,
+  two_none,
+  none_above,
+  known-decides,
+  settles-decides,
+  waits-decides,
+  carried-decides,
+  none-dirty,
+)
+
+pub ruleset record_tests = (length-expected, placed-ends, no-descriptor, waiting-ends)

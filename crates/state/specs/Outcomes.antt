@@ -12,9 +12,11 @@ use Rattle.state.specs.declared.outcomes.Refusal.TheVariants.{StaleReader, NotAt
 use Rattle.state.specs.declared.outcomes.Refusal.TheVariants.{FileClosed, NoSuchMinute, StillOpen}
 use Rattle.state.specs.declared.outcomes.Refusal.TheVariants.{NoGrant, NotReady}
 use Rattle.state.specs.declared.outcomes.Refusal.TheVariants.{BadList, BadBudget}
-use Rattle.state.specs.declared.outcomes.Outcome.{Outcome}
-use Rattle.state.specs.declared.outcomes.Outcome.TheVariants.{Done, Offset, Given, Granted, Pairs}
-use Rattle.state.specs.declared.outcomes.Outcome.TheVariants.{Ordered, Refused}
+use Rattle.state.specs.declared.outcomes.Answer.{Answer}
+use Rattle.state.specs.declared.outcomes.Answer.TheVariants.{Done, Offset, Given, Granted, Pairs}
+use Rattle.state.specs.declared.outcomes.Answer.TheVariants.{Ordered}
+use Rattle.std.specs.declared.result.Result.{Result}
+use Rattle.std.specs.declared.result.Result.TheVariants.{Ok, Err}
 
 -- "What a turned-down call brings" [R-16.1]: the column Returned. From 15 on paper 02: "a new refusal number
 -- joins demand 1's fourteen and 01's table" [R-16.1].
@@ -64,12 +66,16 @@ pub data Said : Type 0 where
   ordered : ℕ → ℕ → ℕ → Said
   refused : ℕ → Said
 
--- Each case of the enum `Outcome` in those terms.
+-- What a call returns, as the code has it: an answer, or a refusal.
+abbrev pub Outcome : Type 0
+Outcome = Result Answer Refusal
+
+-- Each case of it in those terms.
 unfoldable pub said : Outcome → Said
-said Done = done_answer
-said (Offset o) = pointer o
-said (Given n) = given n
-said (Granted n) = granted n
-said (Pairs n) = pairs n
-said (Ordered grants gap tried) = ordered grants gap tried
-said (Refused r) = refused (number r)
+said (Ok Done) = done_answer
+said (Ok (Offset o)) = pointer o
+said (Ok (Given n)) = given n
+said (Ok (Granted n)) = granted n
+said (Ok (Pairs n)) = pairs n
+said (Ok (Ordered grants gap tried)) = ordered grants gap tried
+said (Err r) = refused (number r)

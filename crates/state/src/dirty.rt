@@ -1,4 +1,6 @@
 // What Commit asks of one transaction's descriptors, on their numbers: no standing is made for it.
+#![tactic(auto, using(crate::proofs::ReaderLaws::touched_decides), unfolding(crate::specs::Layout::descriptor_of))]
+
 ghost use Rattle.std.specs.Prelude.{◌&&◌, ◌≡◌, ◌<◌};
 ghost use Rattle.limits.specs.Limits.{descriptor_count, transaction_count};
 ghost use Rattle.standings.specs.Table.{is_touched};

@@ -2,6 +2,8 @@
 // A write record takes three numbers in a row: its descriptor, with 16 added while it has no place; its
 // place, or the advance before it; its length. Transaction t's 64 records stand from 3 × 64 × t on, those of
 // the last grant behind them as part 8. Only this module and specs/Journal.antt know that.
+#![tactic(auto, using(crate::proofs::LayoutLaws::record_of, crate::proofs::ReaderLaws::record_tests), unfolding(crate::specs::Journal::write_record_at, crate::specs::Journal::with_record_at, crate::specs::Journal::decoded, crate::specs::Journal::decoded_as))]
+
 ghost use Rattle.std.specs.Prelude.{◌≡◌, ◌<◌};
 ghost use Rattle.limits.specs.Limits.{transaction_count, record_count};
 ghost use Rattle.state.specs.Journal.{journal_parts, descriptor_code, write_record_at, with_record_at};
@@ -11,7 +13,7 @@ ghost use Rattle.state.specs.Layout.{journal_of, transaction_of};
 use crate::layout::State;
 use crate::readers::may_wait_to;
 pub use limits::RECORDS;
-use limits::{DESCRIPTORS, TRANSACTIONS, wide};
+use limits::{DESCRIPTORS, TRANSACTIONS};
 use standings::Place;
 
 // The part of the journal that has the last grant's write records.
@@ -39,16 +41,14 @@ pub fn record_at(state: &State, t: usize, k: usize) -> WriteRecord
     let h = state[i];
     let p = state[i + 1];
     let length = state[i + 2];
-    if h < UNPLACED {
-        return WriteRecord {
-            descriptor: h,
-            place: Place::At(p),
-            length,
-        };
-    }
+    let (descriptor, place) = if h < UNPLACED {
+        (h, Place::At(p))
+    } else {
+        (h - UNPLACED, Place::After(p))
+    };
     WriteRecord {
-        descriptor: h - UNPLACED,
-        place: Place::After(p),
+        descriptor,
+        place,
         length,
     }
 }
@@ -61,8 +61,8 @@ pub fn ends_by(state: &State, t: usize, k: usize, most: usize) -> bool
         (write_record_at (journal_of state.now) t k) }
 {
     let i = 3 * (RECORDS * t + k);
-    let h = wide(state[i]);
-    let end = wide(state[i + 1]) + wide(state[i + 2]);
+    let h = usize::from(state[i]);
+    let end = usize::from(state[i + 1]) + usize::from(state[i + 2]);
     if h < DESCRIPTORS {
         return end <= most;
     }

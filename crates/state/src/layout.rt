@@ -1,9 +1,11 @@
 // The state's meaning, read from its numbers and put into them by name.
+#![tactic(auto, using(buffers::proofs::TableLaws::get_d_tabulate, crate::proofs::LayoutLaws::standings_of), unfolding(crate::specs::Layout::descriptor_of, crate::specs::Layout::used_of, crate::specs::Layout::transaction_of, crate::specs::Layout::window_of, crate::specs::Layout::undo_of, crate::specs::Layout::store_of, crate::specs::Updates::with_descriptor_at, crate::specs::Updates::with_chosen_at, crate::specs::Updates::with_used_at, crate::specs::Updates::zeroed_at, crate::specs::Updates::reset_at, crate::specs::Updates::with_file_numbers_at, crate::specs::Updates::copied_to))]
+
 ghost use Rattle.std.specs.Prelude.{true, false, ◌≡◌, ℕ, ◌+◌, ◌<◌, ◌≤◌, length, get_or, replicate};
 ghost use Rattle.limits.specs.Limits.{file_count, descriptor_count, transaction_count};
 ghost use Rattle.state.specs.StoreMeaning.{standing_at, no_descriptor, window_at};
 ghost use Rattle.state.specs.Layout.{standing_of};
-ghost use Rattle.state.specs.Updates.{first_number, second_number, flag_number, StandingFits};
+ghost use Rattle.state.specs.Updates.{first_number, second_number, StandingFits};
 ghost use Rattle.state.specs.Layout.{descriptor_of, transaction_of, store_of};
 ghost use Rattle.state.specs.Updates.{with_descriptor_at, with_chosen_at, with_used_at, reset_at};
 ghost use Rattle.state.specs.Updates.{with_stale_at, with_lengthmarks_at};
@@ -22,7 +24,6 @@ use crate::positions::{
 use crate::{DESCRIPTORS, Descriptor, FILES, TRANSACTIONS, Transaction};
 use buffers::bit_sets;
 use counters::Used;
-use limits::wide;
 use standings::Standing;
 use windows::Window;
 
@@ -35,23 +36,11 @@ pub type State = [u16; STATE_LEN];
 // How many numbers the last grant found: sixteen offsets, eight lengths.
 pub const FOUND: usize = DESCRIPTORS + FILES;
 
-// How many numbers were lent, which the array's type alone does not tell a proof.
-pub fn length_of(state: &[u16]) -> usize
-    ensures { result ≡ length state.now }
-{
-    state.len()
-}
-
 // Sets every number of the state to 0.
 pub fn clear(state: &mut State)
     ensures { state.new ≡ replicate state_length 0 }
 {
-    length_of(state);
-    let mut i = 0;
-    while i < STATE_LEN {
-        state[i] = 0;
-        i += 1;
-    }
+    state.fill(0);
 }
 
 // ---- numbers and what they mean
@@ -59,24 +48,15 @@ pub fn clear(state: &mut State)
 fn standing_of(a: u16, b: u16) -> Standing
     ensures { result ≡ standing_of a b }
 {
-    if b == KNOWN {
-        if a == 0 {
-            return Standing::Known(0);
-        }
-        return Standing::Known(a - OFFSET_BIAS);
-    }
-    if b == 0 {
-        if a == 0 {
-            return Standing::Untouched;
-        }
-        return Standing::Placed(a - OFFSET_BIAS);
-    }
-    if a == 0 {
-        return Standing::Deferred(b - ADVANCE_BIAS);
-    }
-    Standing::Moved {
-        advance: b - ADVANCE_BIAS,
-        offset: a - OFFSET_BIAS,
+    match (a, b) {
+        (_, KNOWN) => Standing::Known(a.saturating_sub(OFFSET_BIAS)),
+        (0, 0) => Standing::Untouched,
+        (_, 0) => Standing::Placed(a - OFFSET_BIAS),
+        (0, _) => Standing::Deferred(b - ADVANCE_BIAS),
+        _ => Standing::Moved {
+            advance: b - ADVANCE_BIAS,
+            offset: a - OFFSET_BIAS,
+        },
     }
 }
 
@@ -85,11 +65,10 @@ fn first_of(standing: Standing) -> u16
     ensures { result ≡ first_number standing }
 {
     match standing {
-        Standing::Untouched => 0,
-        Standing::Placed(offset) => offset + OFFSET_BIAS,
-        Standing::Deferred(_) => 0,
-        Standing::Moved { advance: _, offset } => offset + OFFSET_BIAS,
-        Standing::Known(offset) => offset + OFFSET_BIAS,
+        Standing::Untouched | Standing::Deferred(_) => 0,
+        Standing::Placed(offset) | Standing::Moved { offset, .. } | Standing::Known(offset) => {
+            offset + OFFSET_BIAS
+        }
     }
 }
 
@@ -98,24 +77,13 @@ fn second_of(standing: Standing) -> u16
     ensures { result ≡ second_number standing }
 {
     match standing {
-        Standing::Untouched => 0,
-        Standing::Placed(_) => 0,
-        Standing::Deferred(advance) => advance + ADVANCE_BIAS,
-        Standing::Moved { advance, offset: _ } => advance + ADVANCE_BIAS,
+        Standing::Untouched | Standing::Placed(_) => 0,
+        Standing::Deferred(advance) | Standing::Moved { advance, .. } => advance + ADVANCE_BIAS,
         Standing::Known(_) => KNOWN,
     }
 }
 
-fn flag_of(b: bool) -> u16
-    ensures { result ≡ flag_number b }
-{
-    if b {
-        return 1;
-    }
-    0
-}
-
-// ---- reading
+// ---- reading: a line each, as what it reads is called; a helper that is told the place would be as long
 
 pub fn is_begun(state: &State, t: usize) -> bool
     requires { t < transaction_count }
@@ -142,7 +110,7 @@ pub fn used_at(state: &State, t: usize) -> Used
     requires { t < transaction_count }
     ensures { result ≡ (transaction_of state.now t).used }
 {
-    let records = wide(state[RECORDS_AT + t]);
+    let records = usize::from(state[RECORDS_AT + t]);
     let bytes = state[BYTES_AT + t];
     Used { records, bytes }
 }
@@ -190,13 +158,10 @@ fn descriptors_at(state: &State, t: usize) -> [Descriptor; DESCRIPTORS]
         dirty: false,
     };
     let mut all = [blank; DESCRIPTORS];
-    let mut d = 0;
-    while d < DESCRIPTORS {
+    for d in 0..DESCRIPTORS {
         if !is_blank_at(state, t, d) {
-            let q = descriptor_at(state, t, d);
-            all[d] = q;
+            all[d] = descriptor_at(state, t, d);
         }
-        d += 1;
     }
     all
 }
@@ -265,7 +230,7 @@ pub fn can_undo(state: &State) -> bool
 pub fn undo_used(state: &State) -> Used
     ensures { result ≡ (store_of state.now).undo.used }
 {
-    let records = wide(state[UNDO_VALID_AT + 1]);
+    let records = usize::from(state[UNDO_VALID_AT + 1]);
     let bytes = state[UNDO_VALID_AT + 2];
     Used { records, bytes }
 }
@@ -293,10 +258,9 @@ pub fn put_descriptor(state: &mut State, t: usize, d: usize, q: Descriptor)
     requires { (t < transaction_count) × (d < descriptor_count) × StandingFits q.standing }
     ensures { state.new ≡ with_descriptor_at state.old t d q }
 {
-    let standing = q.standing;
     let dirty = state[DIRTY_AT + t];
-    state[TRANSACTIONS_AT + TRANSACTIONS * d + t] = first_of(standing);
-    state[TRANSACTIONS_AT + TRANSACTIONS * (SECOND + d) + t] = second_of(standing);
+    state[TRANSACTIONS_AT + TRANSACTIONS * d + t] = first_of(q.standing);
+    state[TRANSACTIONS_AT + TRANSACTIONS * (SECOND + d) + t] = second_of(q.standing);
     state[DIRTY_AT + t] = bit_sets::put(dirty, d, q.dirty);
 }
 
@@ -313,13 +277,10 @@ pub fn put_chosen(
         ≡ with_chosen_at state.old t (λ e. get_or chosen e false) (λ e. get_or all e no_descriptor)
         descriptor_count }
 {
-    let mut e = 0;
-    while e < DESCRIPTORS {
+    for e in 0..DESCRIPTORS {
         if chosen[e] {
-            let q = all[e];
-            put_descriptor(state, t, e, q);
+            put_descriptor(state, t, e, all[e]);
         }
-        e += 1;
     }
 }
 
@@ -353,12 +314,10 @@ pub fn reset(state: &mut State, t: usize, begun: bool)
     requires { t < transaction_count }
     ensures { state.new ≡ reset_at state.old t begun }
 {
-    let mut k = 0;
-    while k < TRANSACTION {
+    for k in 0..TRANSACTION {
         state[TRANSACTIONS_AT + TRANSACTIONS * k + t] = 0;
-        k += 1;
     }
-    state[BEGUN_AT + t] = flag_of(begun);
+    state[BEGUN_AT + t] = u16::from(begun);
 }
 
 pub fn put_file(state: &mut State, d: usize, n: u16)
@@ -374,10 +333,8 @@ pub fn put_files(state: &mut State, numbers: &[u8])
     ensures { state.new
         ≡ with_file_numbers_at state.old (λ d. get_or numbers.now d 0) descriptor_count }
 {
-    let mut d = 0;
-    while d < DESCRIPTORS {
-        put_file(state, d, numbers[d] as u16);
-        d += 1;
+    for d in 0..DESCRIPTORS {
+        put_file(state, d, u16::from(numbers[d]));
     }
 }
 
@@ -406,7 +363,7 @@ pub fn put_window(state: &mut State, f: usize, w: Window)
 pub fn put_undo_valid(state: &mut State, valid: bool)
     ensures { state.new ≡ with_undo_valid_at state.old valid }
 {
-    state[UNDO_VALID_AT] = flag_of(valid);
+    state[UNDO_VALID_AT] = u16::from(valid);
 }
 
 pub fn put_undo_used(state: &mut State, u: Used)
@@ -431,16 +388,14 @@ pub fn put_found_length(state: &mut State, f: usize, n: u16)
     state[FOUND_LENGTHS_AT + f] = n;
 }
 
-// Copies the n numbers from `from` on to those from `to` on.
+// Copies the n numbers from `from` on to those from `to` on. One after the other, which is quicker here than
+// `copy_within`.
 fn copy_numbers(state: &mut State, from: usize, to: usize, n: usize)
     requires { (from + n ≤ state_length) × (to + n ≤ state_length) }
     ensures { state.new ≡ copied_to state.old from to n }
 {
-    let mut i = 0;
-    while i < n {
-        let number = state[from + i];
-        state[to + i] = number;
-        i += 1;
+    for i in 0..n {
+        state[to + i] = state[from + i];
     }
 }
 

@@ -19,6 +19,10 @@ pub use positions::OFFSETS_AT;
 use standings::Standing;
 use windows::Window;
 
+// Transactions, descriptors and files are named by plain numbers, here and in all crates above. A type for each
+// would be no plainer: loops count eight or sixteen of them, the scope's rules and the theorems speak of numbers,
+// and every clause would name a field of the type; so `requires` says the range.
+
 // The standing of a descriptor, and whether the transaction made an accepted Seek, Read or Write on it: then
 // it is dirty, and Commit sets its offset.
 #[derive(Clone, Copy)]
@@ -27,7 +31,7 @@ pub struct Descriptor {
     pub dirty: bool,
 }
 
-// lengthmarks has bit f (worth 2 to the power f) set where the transaction has sighted the length of file f.
+// begun and stale are flags, no enum: each is a number of the state and is set by itself. lengthmarks has bit f (worth 2 to the power f) set where the transaction has sighted the length of file f.
 #[derive(Clone, Copy)]
 pub struct Transaction {
     pub begun: bool,
@@ -38,7 +42,8 @@ pub struct Transaction {
 }
 
 // What the state holds of the last grant, beside its write records: whether it can be undone, how many
-// records and bytes it had, and the committed offsets and lengths that it found. Only specs/ speaks of it, as
+// records and bytes it had, and the committed offsets and lengths that it found. `valid` is no Option around the
+// rest: these are the state's numbers, and they stay when an undo sets the flag back. Only specs/ speaks of it, as
 // of the store below.
 #[derive(Clone, Copy)]
 pub struct Undo {
@@ -66,10 +71,6 @@ impl Descriptor {
     pub fn sets_offset(self) -> bool
         ensures { result ≡ (self.dirty && is_touched self.standing) }
     {
-        if !self.dirty {
-            return false;
-        }
-        let standing = self.standing;
-        standing.is_touched()
+        self.dirty && self.standing.is_touched()
     }
 }

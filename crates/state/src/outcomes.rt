@@ -4,7 +4,7 @@ ghost use Rattle.state.specs.Outcomes.{number};
 
 // The refusals, in the order of their numbers: paper 01's table, then those of paper 02. BadLine is a line's
 // of a trace; no call meets it.
-#[derive(Clone, Copy)]
+#[derive(Clone, Copy, PartialEq, Eq)]
 pub enum Refusal {
     BufferLength,
     RecordRange,
@@ -75,16 +75,18 @@ impl Refusal {
     }
 }
 
-// The result of a call: plain, an offset, a count of bytes given, the octet of those that a granted Commit
-// made stale (bit t, worth 2 to the power t, for transaction t), a count of pairs, an order's grants with the
-// gap and the number of orders tried, or a refusal.
+// What a call that is not refused answers: plainly, an offset, a count of bytes given, the octet of those that
+// a granted Commit made stale (bit t, worth 2 to the power t, for transaction t), a count of pairs, or an
+// order's grants with the gap and the number of orders tried.
 #[derive(Clone, Copy)]
-pub enum Outcome {
+pub enum Answer {
     Done,
     Offset(u16),
     Given(u16),
     Granted(u8),
     Pairs(u16),
     Ordered(u8, u8, u16),
-    Refused(Refusal),
 }
+
+// The result of a call.
+pub type Outcome = Result<Answer, Refusal>;

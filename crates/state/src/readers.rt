@@ -1,6 +1,8 @@
 // Tests of what the state holds, made on its numbers: none takes a standing apart, and those that go over
 // several have no branch. What they promise speaks of the meaning alone.
-ghost use Rattle.std.specs.Prelude.{false, not, ◌&&◌, ◌||◌, ◌≡◌, leb, eqb, get_or, ℕ, ◌+◌, ◌<◌, ◌≤◌};
+#![tactic(auto, using(crate::proofs::ReaderLaws::tests), unfolding(crate::specs::Layout::transaction_of, crate::specs::Layout::used_of))]
+
+ghost use Rattle.std.specs.Prelude.{false, not, ◌&&◌, ◌||◌, ◌≡◌, leb, eqb, get_or, length, ℕ, ◌+◌, ◌<◌, ◌≤◌};
 ghost use Rattle.limits.specs.Limits.{file_count, descriptor_count, transaction_count};
 ghost use Rattle.buffers.specs.Below.{below};
 ghost use Rattle.standings.specs.Table.{read_settles, is_known, may_wait, advance, offset_of};
@@ -14,7 +16,6 @@ use crate::positions::{
     OFFSETS_AT, RECORDS_AT, STARTS_AT, first_at, second_at,
 };
 use crate::{DESCRIPTORS, FILES, TRANSACTIONS};
-use limits::wide;
 
 // What is added to an advance, as a length has it.
 const WIDE_BIAS: usize = ADVANCE_BIAS as usize;
@@ -48,7 +49,7 @@ pub fn may_wait_to(state: &State, t: usize, d: usize, end: usize) -> bool
     ensures { result ≡ may_wait (standing_at (transaction_of state.now t) d)
         && leb end (advance (standing_at (transaction_of state.now t) d)) }
 {
-    let b = wide(second_at(state, t, d));
+    let b = usize::from(second_at(state, t, d));
     end + WIDE_BIAS <= b
 }
 
@@ -58,10 +59,7 @@ pub fn may_wait_to(state: &State, t: usize, d: usize, end: usize) -> bool
 fn excess(x: u16, most: u16) -> u16
     ensures { eqb result 0 ≡ leb x most }
 {
-    if most < x {
-        return x - most;
-    }
-    0
+    x.saturating_sub(most)
 }
 
 // How far the advances and offsets that the standings of transaction t carry are above `most`, all together;
@@ -73,13 +71,11 @@ fn own_excess(state: &State, t: usize, most: u16) -> u16
         && leb (offset_of (standing_at (transaction_of state.now t) d)) most) descriptor_count }
 {
     let mut bad = 0u16;
-    let mut d = 0;
-    while d < DESCRIPTORS {
+    for d in 0..DESCRIPTORS {
         let a = first_at(state, t, d);
         let b = second_at(state, t, d);
         let more = excess(b, most + ADVANCE_BIAS) | excess(a, most + OFFSET_BIAS);
-        bad = bad | more;
-        d += 1;
+        bad |= more;
     }
     bad
 }
@@ -114,10 +110,8 @@ pub fn open_at_most(state: &State, records: u16, bytes: u16, most: u16) -> bool
         transaction_count }
 {
     let mut bad = 0u16;
-    let mut t = 0;
-    while t < TRANSACTIONS {
-        bad = bad | open_excess(state, t, records, bytes, most);
-        t += 1;
+    for t in 0..TRANSACTIONS {
+        bad |= open_excess(state, t, records, bytes, most);
     }
     bad == 0
 }
@@ -142,10 +136,8 @@ pub fn all_use_at_most(state: &State, records: u16, bytes: u16) -> bool
         && leb (transaction_of state.now t).used.bytes bytes)) transaction_count }
 {
     let mut good = true;
-    let mut t = 0;
-    while t < TRANSACTIONS {
-        good = good & uses_at_most(state, t, records, bytes);
-        t += 1;
+    for t in 0..TRANSACTIONS {
+        good &= uses_at_most(state, t, records, bytes);
     }
     good
 }
@@ -161,16 +153,13 @@ pub fn any_dirty(state: &State, t: usize) -> bool
 
 // ---- the tables
 
-// The n numbers from `from` on are at most `most`.
-fn at_most(state: &State, from: usize, n: usize, most: u16) -> bool
-    requires { from + n ≤ state_length }
-    ensures { result ≡ below (λ k. leb (get_or state.now (from + k) 0) most) n }
+// The numbers are at most `most`.
+fn at_most(numbers: &[u16], most: u16) -> bool
+    ensures { result ≡ below (λ k. leb (get_or numbers.now k 0) most) (length numbers.now) }
 {
     let mut good = true;
-    let mut k = 0;
-    while k < n {
-        good = good & (state[from + k] <= most);
-        k += 1;
+    for n in numbers {
+        good &= *n <= most;
     }
     good
 }
@@ -215,10 +204,8 @@ pub fn tables_at_most(state: &State, file: u16, offset: u16, length: u16, minute
         && leb (window_at (store_of state.now) f).end minute) file_count }
 {
     let mut bad = 0u16;
-    let mut k = 0;
-    while k < FILES {
-        bad = bad | tables_excess(state, k, file, offset, length, minute);
-        k += 1;
+    for k in 0..FILES {
+        bad |= tables_excess(state, k, file, offset, length, minute);
     }
     bad == 0
 }
@@ -229,5 +216,5 @@ pub fn found_at_most(state: &State, most: u16) -> bool
         ≡ below (λ d. leb (get_or (store_of state.now).undo.offsets d 0) most) descriptor_count
         && below (λ f. leb (get_or (store_of state.now).undo.lengths f 0) most) file_count }
 {
-    at_most(state, FOUND_AT, FOUND, most)
+    at_most(&state[FOUND_AT..FOUND_AT + FOUND], most)
 }

@@ -3,107 +3,301 @@
 // transactions are open give all about the call.
 #![tactic(auto)]
 
-ghost use Rattle.std.specs.Prelude.{◌+◌, ◌≤◌, ◌<◌};
+ghost use Rattle.std.specs.Prelude.{◌≤◌, ◌<◌};
 
-use limits::{BUFFER_BYTES, FILE_BYTES, LAST_TRANSACTION};
+use limits::{BUFFER_BYTES, DESCRIPTORS, FILE_BYTES, LAST_MINUTE, TRANSACTIONS};
 use requests::Request;
 use test_scripts::Plan;
 
-// The modes. Modes 1, crowded, and 6, scattered, differ by the tables alone.
-const MIXED: usize = 0;
+// The modes. Crowded and Scattered differ from Mixed by the tables alone.
+#[derive(Clone, Copy, PartialEq, Eq)]
+enum Mode {
+    Mixed,
+    Crowded,
+    ManyRecords,
+    LongWrites,
+    NearEnd,
+    LongReads,
+    Scattered,
+    ShortFiles,
+    Quiet,
+    Ready,
+}
 
-const MANY_RECORDS: usize = 2;
+// The kinds of calls.
+#[derive(Clone, Copy, PartialEq, Eq)]
+enum Kind {
+    Fresh,
+    Begin,
+    Seek,
+    Write,
+    GetFilePointer,
+    Read,
+    Places,
+    Commit,
+    Abort,
+    SetWindow,
+    UndoCommit,
+    Dispatch,
+    BestOrder,
+}
 
-const LONG_WRITES: usize = 3;
-
-const NEAR_END: usize = 4;
-
-const LONG_READS: usize = 5;
-
-const SHORT_FILES: usize = 7;
-
-const QUIET: usize = 8;
-
-const READY: usize = 9;
-
-const MODES: usize = 10;
-
-// The kinds of calls, in the order of their weights.
-const FRESH: usize = 0;
-
-const BEGIN: usize = 1;
-
-const SEEK: usize = 2;
-
-const WRITE: usize = 3;
-
-const GET_FILE_POINTER: usize = 4;
-
-const READ: usize = 5;
-
-const PLACES: usize = 6;
-
-const COMMIT: usize = 7;
-
-const ABORT: usize = 8;
-
-const SET_WINDOW: usize = 9;
-
-const UNDO_COMMIT: usize = 10;
-
-const DISPATCH: usize = 11;
-
-const BEST_ORDER: usize = 12;
-
-const KINDS: usize = 13;
-
-// How many of 1,000 calls are of each kind, thirteen numbers a mode: mixed, crowded, many records, long
-// writes, near the end, long reads, scattered, short files, quiet, ready.
-const WEIGHTS: [usize; 130] = [
-    4, 20, 200, 250, 80, 207, 40, 102, 43, 40, 5, 5, 4, 4, 20, 155, 215, 120, 186, 40, 162, 44, 40,
-    5, 5, 4, 4, 10, 60, 787, 10, 56, 40, 12, 8, 10, 1, 1, 1, 4, 20, 208, 419, 30, 91, 40, 92, 53,
-    40, 1, 1, 1, 4, 20, 200, 260, 80, 141, 40, 151, 50, 40, 5, 5, 4, 4, 20, 190, 240, 60, 251, 40,
-    102, 39, 40, 5, 5, 4, 4, 20, 333, 335, 20, 100, 146, 16, 10, 10, 1, 1, 4, 24, 20, 50, 310, 10,
-    316, 16, 180, 30, 30, 5, 5, 4, 4, 10, 210, 392, 20, 70, 10, 110, 20, 20, 65, 65, 4, 4, 10, 200,
-    240, 50, 160, 6, 20, 40, 20, 5, 5, 240,
+// The kinds in the order of their weights.
+const KINDS: [Kind; 13] = [
+    Kind::Fresh,
+    Kind::Begin,
+    Kind::Seek,
+    Kind::Write,
+    Kind::GetFilePointer,
+    Kind::Read,
+    Kind::Places,
+    Kind::Commit,
+    Kind::Abort,
+    Kind::SetWindow,
+    Kind::UndoCommit,
+    Kind::Dispatch,
+    Kind::BestOrder,
 ];
 
-// What is wrong with the buffers or the state lent to a call; short and forgery are 0 where nothing is.
+impl Mode {
+    // The modes take turns, a phase each.
+    fn of_phase(phase: usize) -> Mode {
+        match phase % 10 {
+            0 => Mode::Mixed,
+            1 => Mode::Crowded,
+            2 => Mode::ManyRecords,
+            3 => Mode::LongWrites,
+            4 => Mode::NearEnd,
+            5 => Mode::LongReads,
+            6 => Mode::Scattered,
+            7 => Mode::ShortFiles,
+            8 => Mode::Quiet,
+            _ => Mode::Ready,
+        }
+    }
+
+    // How many of 1,000 calls are of each kind.
+    fn weights(self) -> [usize; 13] {
+        match self {
+            Mode::Mixed => [4, 20, 200, 250, 80, 207, 40, 102, 43, 40, 5, 5, 4],
+            Mode::Crowded => [4, 20, 155, 215, 120, 186, 40, 162, 44, 40, 5, 5, 4],
+            Mode::ManyRecords => [4, 10, 60, 787, 10, 56, 40, 12, 8, 10, 1, 1, 1],
+            Mode::LongWrites => [4, 20, 208, 419, 30, 91, 40, 92, 53, 40, 1, 1, 1],
+            Mode::NearEnd => [4, 20, 200, 260, 80, 141, 40, 151, 50, 40, 5, 5, 4],
+            Mode::LongReads => [4, 20, 190, 240, 60, 251, 40, 102, 39, 40, 5, 5, 4],
+            Mode::Scattered => [4, 20, 333, 335, 20, 100, 146, 16, 10, 10, 1, 1, 4],
+            Mode::ShortFiles => [24, 20, 50, 310, 10, 316, 16, 180, 30, 30, 5, 5, 4],
+            Mode::Quiet => [4, 10, 210, 392, 20, 70, 10, 110, 20, 20, 65, 65, 4],
+            Mode::Ready => [4, 10, 200, 240, 50, 160, 6, 20, 40, 20, 5, 5, 240],
+        }
+    }
+
+    // How many transaction numbers a mode mostly uses.
+    fn transactions_used(self) -> usize
+        ensures { (0 < result) × (result ≤ 8) }
+    {
+        match self {
+            Mode::Quiet => 1,
+            Mode::ManyRecords | Mode::Scattered => 2,
+            Mode::LongWrites => 3,
+            Mode::Crowded | Mode::ShortFiles => 4,
+            Mode::NearEnd => 6,
+            Mode::Mixed | Mode::LongReads | Mode::Ready => 8,
+        }
+    }
+
+    // Through how many files of the usual arrangement a mode goes, each by two descriptors.
+    fn files_used(self) -> usize
+        ensures { (0 < result) × (result ≤ 8) }
+    {
+        match self {
+            Mode::Crowded | Mode::Scattered | Mode::ShortFiles | Mode::Quiet | Mode::Ready => 2,
+            Mode::NearEnd => 3,
+            Mode::LongReads => 4,
+            Mode::Mixed | Mode::ManyRecords | Mode::LongWrites => 8,
+        }
+    }
+
+    // The files stay short.
+    fn is_short(self) -> bool {
+        matches!(self, Mode::ShortFiles | Mode::Quiet | Mode::Ready)
+    }
+
+    // Each phase starts with a Fresh.
+    fn starts_fresh(self) -> bool {
+        matches!(self, Mode::Quiet | Mode::Ready)
+    }
+}
+
+// A list of at most N numbers.
 #[derive(Clone, Copy)]
-pub struct Damage {
-    // 1, 2, 3, 4: of the files, logs, marks, undo buffer only the first length bytes are lent.
-    pub short: usize,
+pub struct NumberList<const N: usize> {
+    numbers: [u8; N],
+    len: usize,
+    ghost in_room: { len ≤ N },
+}
+
+impl<const N: usize> NumberList<N> {
+    fn new() -> NumberList<N> {
+        NumberList {
+            numbers: [0; N],
+            len: 0,
+        }
+    }
+
+    // One number more, where there is room.
+    fn push(&mut self, n: u8) {
+        if self.len < N {
+            self.numbers[self.len] = n;
+            self.len += 1;
+        }
+    }
+
+    pub fn as_slice(&self) -> &[u8] {
+        &self.numbers[..self.len]
+    }
+}
+
+// The store buffers that are lent to a call.
+#[derive(Clone, Copy, PartialEq, Eq)]
+pub enum StoreBuffer {
+    Files,
+    Logs,
+    Marks,
+    Undo,
+}
+
+// A store buffer of which only the first `length` bytes are lent.
+#[derive(Clone, Copy)]
+pub struct Short {
+    pub buffer: StoreBuffer,
     pub length: usize,
-    // 1 to 27: the call gets a state that is not valid.
-    pub forgery: usize,
+}
+
+// A standing whose number is out of range.
+#[derive(Clone, Copy)]
+pub enum FarStanding {
+    Placed,
+    Deferred,
+    MovedAdvance,
+    MovedOffset,
+    Known,
+}
+
+// A standing under which a record without a place is out of range.
+#[derive(Clone, Copy)]
+pub enum Waiting {
+    Placed,
+    Deferred,
+}
+
+// A counter out of range: of records, or of bytes, which differs from the sum of their lengths.
+#[derive(Clone, Copy)]
+pub enum Counter {
+    Records,
+    Bytes,
+}
+
+// What is wrong with the records of a part of the journal: the first one's descriptor, its end, its length,
+// which changes the sum, or that two have more bytes than a log.
+#[derive(Clone, Copy)]
+pub enum RecordFault {
+    Descriptor,
+    End,
+    Length,
+    TooManyBytes,
+}
+
+// What is out of range in a forged state: a number that is committed, of a window, of a transaction, or of
+// what is held of the last grant.
+#[derive(Clone, Copy)]
+pub enum Fault {
+    FileNumber,
+    Offset,
+    Length,
+    WindowStart,
+    WindowEnd,
+    Standing(FarStanding),
+    Counter(Counter),
+    Record(RecordFault),
+    Unplaced(Waiting),
+    FoundOffset,
+    FoundLength,
+    GrantCounter(Counter),
+    GrantRecord(RecordFault),
+    GrantUnplaced,
+}
+
+// The faults, in the order of the forgeries 1 to 27.
+const FAULTS: [Fault; 27] = [
+    Fault::FileNumber,
+    Fault::Offset,
+    Fault::Standing(FarStanding::Placed),
+    Fault::Standing(FarStanding::Deferred),
+    Fault::Standing(FarStanding::MovedAdvance),
+    Fault::Standing(FarStanding::MovedOffset),
+    Fault::Standing(FarStanding::Known),
+    Fault::Counter(Counter::Records),
+    Fault::Counter(Counter::Bytes),
+    Fault::Record(RecordFault::Descriptor),
+    Fault::Record(RecordFault::End),
+    Fault::Record(RecordFault::Length),
+    Fault::Unplaced(Waiting::Placed),
+    Fault::Unplaced(Waiting::Deferred),
+    Fault::Record(RecordFault::TooManyBytes),
+    Fault::Length,
+    Fault::WindowStart,
+    Fault::WindowEnd,
+    Fault::FoundOffset,
+    Fault::FoundLength,
+    Fault::GrantCounter(Counter::Records),
+    Fault::GrantCounter(Counter::Bytes),
+    Fault::GrantRecord(RecordFault::Descriptor),
+    Fault::GrantRecord(RecordFault::End),
+    Fault::GrantRecord(RecordFault::Length),
+    Fault::GrantRecord(RecordFault::TooManyBytes),
+    Fault::GrantUnplaced,
+];
+
+// A fault, and the numbers that say where it is and how far out of range.
+#[derive(Clone, Copy)]
+pub struct Forgery {
+    pub fault: Fault,
     pub transaction: usize,
     pub index: usize,
     pub excess: usize,
+    ghost transaction_in_range: { transaction < 8 },
+    ghost index_in_range: { index < 16 },
 }
 
-// What is asked about an order to commit in: the transactions are the first `listed` of the list.
+// What is wrong with what is lent to a call: a buffer that is short, a state that is not valid.
+#[derive(Clone, Copy)]
+pub struct Damage {
+    pub short: Option<Short>,
+    pub forgery: Option<Forgery>,
+}
+
+// What is asked about an order to commit in.
 #[derive(Clone, Copy)]
 pub struct Ready {
-    pub list: [u8; 10],
-    pub listed: usize,
+    pub list: NumberList<10>,
     pub minute: usize,
     pub budget: usize,
 }
 
-// A Fresh, a dispatcher, a best order, or another call.
+// A Fresh with its file numbers, a dispatcher, a best order, or another call.
 #[derive(Clone, Copy)]
 pub enum Made {
-    Fresh,
-    Dispatch,
-    BestOrder,
+    Fresh(NumberList<17>),
+    Dispatch(Plan),
+    BestOrder(Ready),
     Asks(Request),
 }
 
-// A call, and what is lent with it. What its kind doesn't use is there all the same.
+// A call, and what is lent with it.
 #[derive(Clone, Copy)]
 pub struct Generated {
     pub made: Made,
-    pub transaction: usize,
     // How many bytes a Write or a dispatcher's data buffer has, the first of them, and what each has more
     // than the one before.
     pub size: usize,
@@ -111,325 +305,210 @@ pub struct Generated {
     pub step: u8,
     // The length of the buffer lent for the answer, 0 for a call that is no Read, Places or dispatcher.
     pub buffer: usize,
-    // The file numbers of a Fresh are the first `listed` of these.
-    pub list: [u8; 17],
-    pub listed: usize,
-    pub plan: Plan,
-    pub ready: Ready,
     pub damage: Damage,
 }
 
-// Twelve numbers, and the last one again.
+// A guess at each transaction: that it is open, and that it has made a Seek since its Begin.
 #[derive(Clone, Copy)]
-pub struct Drawn {
-    pub numbers: [usize; 12],
-    pub last: usize,
+pub struct Guess {
+    open: [bool; TRANSACTIONS],
+    sought: [bool; TRANSACTIONS],
 }
 
-fn following(x: usize) -> usize
-    requires { x < 2147483647 }
-    ensures { result < 2147483647 }
-{
-    48271 * x % 2147483647
-}
-
-pub fn draw(x: usize) -> Drawn
-    requires { x < 2147483647 }
-    ensures { result.last < 2147483647 }
-{
-    let mut numbers = [0usize; 12];
-    let mut last = x;
-    let mut i = 0;
-    while i < 12 {
-        last = following(last);
-        numbers[i] = last;
-        i += 1;
-    }
-    Drawn { numbers, last }
-}
-
-// How many transaction numbers a mode mostly uses.
-fn transactions_used(mode: usize) -> usize
-    ensures { (0 < result) × (result ≤ 8) }
-{
-    match mode {
-        1 => 4,
-        2 => 2,
-        3 => 3,
-        4 => 6,
-        6 => 2,
-        7 => 4,
-        QUIET => 1,
-        _ => 8,
+// Transaction t's flag is changed, where there is a transaction t.
+fn mark(flags: &mut [bool; TRANSACTIONS], t: usize, value: bool) {
+    if t < TRANSACTIONS {
+        flags[t] = value;
     }
 }
 
-// Through how many files of the usual arrangement a mode goes, each by two descriptors.
-fn files_used(mode: usize) -> usize
-    ensures { (0 < result) × (result ≤ 8) }
-{
-    match mode {
-        1 => 2,
-        4 => 3,
-        5 => 4,
-        6 => 2,
-        7 => 2,
-        QUIET => 2,
-        READY => 2,
-        _ => 8,
+impl Guess {
+    // No transaction is open.
+    pub fn none() -> Guess {
+        Guess {
+            open: [false; TRANSACTIONS],
+            sought: [false; TRANSACTIONS],
+        }
+    }
+
+    // The guess after the call.
+    pub fn after(mut self, g: Generated) -> Guess {
+        if g.damage.short.is_some() || g.damage.forgery.is_some() {
+            return self;
+        }
+        match g.made {
+            Made::Fresh(list) => {
+                if is_good(list) {
+                    self.open = [false; TRANSACTIONS];
+                }
+            }
+            Made::Asks(request) => self.ask(request),
+            Made::Dispatch(_) | Made::BestOrder(_) => {}
+        }
+        self
+    }
+
+    // What a request changes.
+    fn ask(&mut self, request: Request) {
+        match request {
+            Request::Begin(t) => {
+                mark(&mut self.open, t, true);
+                mark(&mut self.sought, t, false);
+            }
+            Request::Seek(t, _, _) => mark(&mut self.sought, t, true),
+            Request::Commit(t, minute) => {
+                if minute <= usize::from(LAST_MINUTE) {
+                    mark(&mut self.open, t, false);
+                }
+            }
+            Request::Abort(t) => mark(&mut self.open, t, false),
+            _ => {}
+        }
+    }
+
+    // The lowest number of a transaction that is guessed open.
+    fn first_open(&self) -> Option<usize> {
+        self.open.iter().position(|open| *open)
     }
 }
 
-// One of the numbers below `used`.
-fn one_below(used: usize, value: usize) -> usize
-    requires { (0 < used) × (used ≤ 8) }
-    ensures { result < 8 }
-{
-    value % used
+// A Fresh with the list is answered plainly: it has sixteen numbers, each below 8.
+fn is_good(list: NumberList<17>) -> bool {
+    let numbers = list.as_slice();
+    numbers.len() == DESCRIPTORS && numbers.iter().all(|n| *n < 8)
+}
+
+// Where the recurrence has come to.
+#[derive(Clone, Copy)]
+pub struct NumberSource {
+    last: usize,
+    ghost in_range: { last < 2147483647 },
+}
+
+impl NumberSource {
+    // Before the first call.
+    pub fn new() -> NumberSource {
+        NumberSource { last: 1 }
+    }
+
+    fn following(&mut self) -> usize {
+        self.last = 48271 * self.last % 2147483647;
+        self.last
+    }
+
+    // The twelve numbers that follow.
+    pub fn draw(&mut self) -> [usize; 12] {
+        let mut numbers = [0usize; 12];
+        for number in numbers.iter_mut() {
+            *number = self.following();
+        }
+        numbers
+    }
 }
 
 // Mostly one of a few that follow the phase, sometimes, not in the quiet mode, any of the eight, now and then
 // 8 or 9.
-fn transaction(phase: usize, r: usize) -> usize
-    requires { phase < 65536 }
-{
+fn transaction(phase: usize, r: usize) -> usize {
     let class = r % 40;
     let value = r / 40;
+    let mode = Mode::of_phase(phase);
     if class == 0 {
         return 8 + value % 2;
     }
-    let mode = phase % MODES;
-    if (class < 4) & (mode != QUIET) {
+    if class < 4 && mode != Mode::Quiet {
         return value % 8;
     }
-    let used = transactions_used(mode);
-    (phase + phase / 8 + one_below(used, value)) % 8
+    let used = mode.transactions_used();
+    (phase % 8 + phase / 8 % 8 + value % used) % 8
 }
 
 // One of the mode's descriptors, in the ready mode mostly that of the transaction, now and then 16 or 17.
-fn descriptor(mode: usize, t: usize, r: usize) -> usize {
+fn descriptor(mode: Mode, t: usize, r: usize) -> usize {
     let class = r % 40;
     let value = r / 40;
     if class == 0 {
         return 16 + value % 2;
     }
-    if (mode == READY) & (3 < class) {
+    if class > 3 && mode == Mode::Ready {
         return t % 2 + 8 * (t / 2 % 2);
     }
-    let used = files_used(mode);
-    one_below(used, value) + 8 * (value / 64 % 2)
+    let used = mode.files_used();
+    value % used + 8 * (value / 64 % 2)
 }
 
 // One of the mode's files, now and then 8 or 9.
-fn file(mode: usize, r: usize) -> usize {
-    let class = r % 40;
+fn file(mode: Mode, r: usize) -> usize {
     let value = r / 40;
-    if class == 0 {
+    if r % 40 == 0 {
         return 8 + value % 2;
     }
-    let used = files_used(mode);
-    one_below(used, value)
+    let used = mode.files_used();
+    value % used
 }
 
 // The kind, by the weights of the mode.
-fn kind(mode: usize, r: usize) -> usize
-    requires { mode < 10 }
-{
+fn weighted_kind(mode: Mode, r: usize) -> Kind {
+    let weights = mode.weights();
     let mut rest = r % 1000;
-    let mut k = FRESH;
-    while k < BEST_ORDER {
-        let weight = WEIGHTS[KINDS * mode + k];
-        if rest < weight {
-            return k;
+    for (kind, weight) in KINDS.iter().zip(weights.iter()) {
+        if rest < *weight {
+            return *kind;
         }
-        rest -= weight;
-        k += 1;
+        rest -= *weight;
     }
-    BEST_ORDER
+    Kind::BestOrder
 }
 
 // In the ready mode the first Write of a transaction is made a Seek.
-fn sought_first(mode: usize, kind: usize, t: usize, sought: [bool; 8]) -> usize {
-    if (mode != READY) | (kind != WRITE) {
-        return kind;
+fn sought_first(mode: Mode, kind: Kind, t: usize, guess: Guess) -> Kind {
+    let is_first = t < TRANSACTIONS && !guess.sought[t];
+    if mode == Mode::Ready && kind == Kind::Write && is_first {
+        return Kind::Seek;
     }
-    if LAST_TRANSACTION < t {
-        return kind;
-    }
-    if sought[t] {
-        return kind;
-    }
-    SEEK
-}
-
-// The lowest number of a transaction that is guessed open, 8 where none is.
-fn first_open(guess: [bool; 8]) -> usize {
-    let mut t = 0;
-    while t < 8 {
-        if guess[t] {
-            return t;
-        }
-        t += 1;
-    }
-    8
-}
-
-// A kind of call, and its transaction.
-#[derive(Clone, Copy)]
-struct Chosen {
-    kind: usize,
-    transaction: usize,
+    kind
 }
 
 // A call on a transaction that is guessed closed: a Begin or, in the quiet mode while none is guessed open,
 // as often an undo or a dispatcher.
-fn opening(mode: usize, t: usize, first: usize, r: usize) -> Chosen {
-    let mut kind = BEGIN;
-    if (mode == QUIET) & (first == 8) {
-        if r % 3 == 0 {
-            kind = UNDO_COMMIT;
-        }
-        if r % 3 == 1 {
-            kind = DISPATCH;
-        }
+fn opening(mode: Mode, first: Option<usize>, r: usize) -> Kind {
+    if mode != Mode::Quiet || first.is_some() {
+        return Kind::Begin;
     }
-    Chosen {
-        kind,
-        transaction: t,
+    match r % 3 {
+        0 => Kind::UndoCommit,
+        1 => Kind::Dispatch,
+        _ => Kind::Begin,
     }
 }
 
-// An undo or a dispatcher while one is guessed open: that one's Commit or Abort.
-fn ending(first: usize, r: usize) -> Chosen {
-    if r % 4 == 0 {
-        return Chosen {
-            kind: ABORT,
-            transaction: first,
-        };
-    }
-    Chosen {
-        kind: COMMIT,
-        transaction: first,
+// An undo or a dispatcher while a transaction is guessed open: that one's Commit or Abort.
+fn ending(r: usize) -> Kind {
+    match r % 4 {
+        0 => Kind::Abort,
+        _ => Kind::Commit,
     }
 }
 
-// Seven times out of eight a call is made to fit the guess.
-fn fitted(mode: usize, kind: usize, t: usize, guess: [bool; 8], r: [usize; 12]) -> Chosen {
-    let chosen = Chosen {
-        kind,
-        transaction: t,
-    };
+// Transaction t exists, and is guessed closed.
+fn is_closed(guess: Guess, t: usize) -> bool {
+    t < TRANSACTIONS && !guess.open[t]
+}
+
+// The kind and the transaction: seven times out of eight a call is made to fit the guess.
+fn fitted(mode: Mode, kind: Kind, t: usize, guess: Guess, r: [usize; 12]) -> (Kind, usize) {
     if r[11] % 8 == 0 {
-        return chosen;
+        return (kind, t);
     }
-    let first = first_open(guess);
-    if ((kind == UNDO_COMMIT) | (kind == DISPATCH)) & (first < 8) {
-        return ending(first, r[9]);
+    let first = guess.first_open();
+    match kind {
+        Kind::UndoCommit | Kind::Dispatch => match first {
+            Some(open) => (ending(r[9]), open),
+            None => (kind, t),
+        },
+        Kind::Fresh | Kind::Begin | Kind::SetWindow | Kind::BestOrder => (kind, t),
+        _ if is_closed(guess, t) => (opening(mode, first, r[10]), t),
+        _ => (kind, t),
     }
-    if (kind < SEEK) | (ABORT < kind) {
-        return chosen;
-    }
-    if LAST_TRANSACTION < t {
-        return chosen;
-    }
-    if guess[t] {
-        return chosen;
-    }
-    opening(mode, t, first, r[10])
-}
-
-// The transactions that are guessed open after a request of transaction t.
-fn guess_after_request(guess: [bool; 8], request: Request, t: usize) -> [bool; 8]
-    requires { t < 8 }
-{
-    let mut out = guess;
-    match request {
-        Request::Begin(_) => out[t] = true,
-        Request::Commit(_, minute) => out[t] = out[t] & (1439 < minute),
-        Request::Abort(_) => out[t] = false,
-        _ => {}
-    }
-    out
-}
-
-// The transactions that are guessed open after a request whose transaction may be none.
-fn guess_after_asked(guess: [bool; 8], request: Request, t: usize) -> [bool; 8] {
-    if LAST_TRANSACTION < t {
-        return guess;
-    }
-    guess_after_request(guess, request, t)
-}
-
-// The first sixteen numbers of a list are at most 7.
-fn is_good(list: [u8; 17]) -> bool {
-    let mut good = true;
-    let mut d = 0;
-    while d < 16 {
-        good = good & (list[d] < 8);
-        d += 1;
-    }
-    good
-}
-
-// The transactions that are guessed open after a Fresh: none, where it has sixteen good numbers.
-fn guess_after_fresh(guess: [bool; 8], list: [u8; 17], listed: usize) -> [bool; 8] {
-    if (listed == 16) & is_good(list) {
-        return [false; 8];
-    }
-    guess
-}
-
-// The transactions that are guessed open after the call.
-pub fn guess_after(guess: [bool; 8], g: Generated) -> [bool; 8] {
-    let t = g.transaction;
-    if 0 < g.damage.short {
-        return guess;
-    }
-    if 0 < g.damage.forgery {
-        return guess;
-    }
-    let made = g.made;
-    let list = g.list;
-    match made {
-        Made::Fresh => guess_after_fresh(guess, list, g.listed),
-        Made::Dispatch => guess,
-        Made::BestOrder => guess,
-        Made::Asks(request) => guess_after_asked(guess, request, t),
-    }
-}
-
-// The transactions that are guessed to have made a Seek, after a request of transaction t.
-fn sought_after_request(sought: [bool; 8], request: Request, t: usize) -> [bool; 8]
-    requires { t < 8 }
-{
-    let mut out = sought;
-    match request {
-        Request::Begin(_) => out[t] = false,
-        Request::Seek(_, _, _) => out[t] = true,
-        _ => {}
-    }
-    out
-}
-
-// The transactions that are guessed to have made a Seek since their Begin, after the call.
-pub fn sought_after(sought: [bool; 8], g: Generated) -> [bool; 8] {
-    let t = g.transaction;
-    if (0 < g.damage.short) | (0 < g.damage.forgery) {
-        return sought;
-    }
-    if LAST_TRANSACTION < t {
-        return sought;
-    }
-    let made = g.made;
-    let Made::Asks(request) = made else {
-        return sought;
-    };
-    sought_after_request(sought, request, t)
-}
-
-// A mode in which the files stay short.
-fn is_short(mode: usize) -> bool {
-    SHORT_FILES <= mode
 }
 
 // Where a Seek goes in a short file: mostly in steps of 4, so that ends meet.
@@ -440,42 +519,30 @@ fn near_start(class: usize, value: usize) -> usize {
     value % 16
 }
 
-fn seek_to(mode: usize, class: usize, value: usize) -> usize {
-    if mode == NEAR_END {
-        if class < 10 {
-            return 4084 + value % 14;
-        }
+fn seek_to(mode: Mode, class: usize, value: usize) -> usize {
+    if mode == Mode::NearEnd && class < 10 {
+        return 4084 + value % 14;
     }
-    if is_short(mode) {
+    if mode.is_short() {
         return near_start(class, value);
     }
-    if class < 6 {
-        return value % 4;
+    match class {
+        0..=5 => value % 4,
+        6..=10 => value % 64,
+        11 | 12 => value % FILE_BYTES,
+        13 | 14 => 4088 + value % 14,
+        _ => value % 65536,
     }
-    if class < 11 {
-        return value % 64;
-    }
-    if class < 13 {
-        return value % FILE_BYTES;
-    }
-    if class < 15 {
-        return 4088 + value % 14;
-    }
-    value % 65536
 }
 
 // The usual lengths of a Write.
 fn usual_length(class: usize, value: usize) -> usize {
-    if class < 3 {
-        return 0;
+    match class {
+        0..=2 => 0,
+        3..=12 => value % 9,
+        13 | 14 => value % 200,
+        _ => value % 4098,
     }
-    if class < 13 {
-        return value % 9;
-    }
-    if class < 15 {
-        return value % 200;
-    }
-    value % 4098
 }
 
 // How many bytes a Write to a short file has.
@@ -486,85 +553,48 @@ fn write_to_short_file(class: usize, value: usize) -> usize {
     value % 9
 }
 
-fn write_length(mode: usize, class: usize, value: usize) -> usize {
-    if mode == MANY_RECORDS {
-        if class < 10 {
-            return 0;
-        }
-        if class < 15 {
-            return value % 3;
-        }
+fn write_length(mode: Mode, class: usize, value: usize) -> usize {
+    match (mode, class) {
+        (Mode::ManyRecords, 0..=9) => 0,
+        (Mode::ManyRecords, 10..=14) => value % 3,
+        (Mode::LongWrites, 0..=11) => 200 + value % 1300,
+        (Mode::LongWrites, 12 | 13) => 3000 + value % 1098,
+        _ if mode.is_short() => write_to_short_file(class, value),
+        _ => usual_length(class, value),
     }
-    if mode == LONG_WRITES {
-        if class < 12 {
-            return 200 + value % 1300;
-        }
-        if class < 14 {
-            return 3000 + value % 1098;
-        }
-    }
-    if is_short(mode) {
-        return write_to_short_file(class, value);
-    }
-    usual_length(class, value)
 }
 
 // The length of the reader's buffer.
-fn reader_length(mode: usize, class: usize) -> usize
+fn reader_length(mode: Mode, class: usize) -> usize
     ensures { result ≤ 5000 }
 {
-    if class == 12 {
-        return 64;
+    match (class, mode) {
+        (12, _) => 64,
+        (13, _) => 300,
+        (14, Mode::Mixed | Mode::LongReads) => FILE_BYTES,
+        (15, Mode::LongReads) => 5000,
+        (15, _) => 0,
+        _ => 16,
     }
-    if class == 13 {
-        return 300;
-    }
-    if class == 15 {
-        if mode == LONG_READS {
-            return 5000;
-        }
-        return 0;
-    }
-    if class == 14 {
-        if mode == MIXED {
-            return FILE_BYTES;
-        }
-        if mode == LONG_READS {
-            return FILE_BYTES;
-        }
-    }
-    16
 }
 
-fn read_count(mode: usize, class: usize, value: usize) -> usize {
-    let room = reader_length(mode, class);
-    if room == FILE_BYTES {
-        return 4080 + value % 20;
+fn read_count(mode: Mode, class: usize, value: usize) -> usize {
+    match reader_length(mode, class) {
+        FILE_BYTES => 4080 + value % 20,
+        0 => value % 2,
+        _ if matches!(class, 10 | 11) => 12 + value % 9,
+        room => value % (room + 1),
     }
-    if room == 0 {
-        return value % 2;
-    }
-    if class == 10 {
-        return 12 + value % 9;
-    }
-    if class == 11 {
-        return 12 + value % 9;
-    }
-    value % (room + 1)
 }
 
 // A minute: mostly one of six, around midnight and around noon, sometimes any of the day, now and then none.
 fn minute(class: usize, value: usize) -> usize {
-    if class == 0 {
-        if value % 2 == 0 {
-            return 1440;
-        }
-        return 1440 + value / 2 % 64096;
+    match class {
+        0 if value % 2 == 0 => 1440,
+        0 => 1440 + value / 2 % 64096,
+        1..=11 => (720 * (value % 2) + 1439 + value / 2 % 3) % 1440,
+        _ => value % 1440,
     }
-    if class < 12 {
-        return (720 * (value % 2) + 1439 + value / 2 % 3) % 1440;
-    }
-    value % 1440
 }
 
 // The end of a window: as its start for every other one.
@@ -575,12 +605,11 @@ fn window_end(start: usize, r: [usize; 12]) -> usize {
     minute(r[5] % 16, r[6])
 }
 
-fn argument(kind: usize, mode: usize, class: usize, value: usize) -> usize {
+fn argument(kind: Kind, mode: Mode, class: usize, value: usize) -> usize {
     match kind {
-        SEEK => seek_to(mode, class, value),
-        WRITE => write_length(mode, class, value),
-        COMMIT => minute(class, value),
-        SET_WINDOW => minute(class, value),
+        Kind::Seek => seek_to(mode, class, value),
+        Kind::Write => write_length(mode, class, value),
+        Kind::Commit | Kind::SetWindow => minute(class, value),
         _ => read_count(mode, class, value),
     }
 }
@@ -588,27 +617,23 @@ fn argument(kind: usize, mode: usize, class: usize, value: usize) -> usize {
 // The length of the buffer for a list: often room for a few pairs, below five; otherwise 64 bytes, or 300,
 // which every list fits.
 fn list_room(class: usize, value: usize) -> usize {
-    if class < 10 {
-        return value % 20;
+    match class {
+        0..=9 => value % 20,
+        10..=12 => 64,
+        _ => 300,
     }
-    if class < 13 {
-        return 64;
-    }
-    300
 }
 
-fn buffer(kind: usize, mode: usize, r: [usize; 12]) -> usize {
+fn buffer(kind: Kind, mode: Mode, r: [usize; 12]) -> usize {
     match kind {
-        READ => reader_length(mode, r[3] % 16),
-        PLACES => list_room(r[3] % 16, r[4]),
-        DISPATCH => reader_length(mode, r[2] % 16),
+        Kind::Read => reader_length(mode, r[3] % 16),
+        Kind::Places => list_room(r[3] % 16, r[4]),
+        Kind::Dispatch => reader_length(mode, r[2] % 16),
         _ => 0,
     }
 }
 
-fn octet(n: usize) -> u8
-    ensures { result ≤ 255 }
-{
+fn octet(n: usize) -> u8 {
     (n % 256) as u8
 }
 
@@ -620,102 +645,92 @@ fn written(r: usize, zeros: usize) -> u8 {
     octet(r)
 }
 
-// Which store buffer is short, for two calls of 128 and for one that is forged as well.
-fn short(class: usize, r: usize) -> usize {
-    if class < 3 {
-        return 1 + r % 4;
+// Which store buffer is short.
+fn store_buffer(r: usize) -> StoreBuffer {
+    match r % 4 {
+        0 => StoreBuffer::Files,
+        1 => StoreBuffer::Logs,
+        2 => StoreBuffer::Marks,
+        _ => StoreBuffer::Undo,
     }
-    0
 }
 
-// How many bytes store buffer `which` has: the fourth is the undo log.
-fn whole(which: usize) -> usize
+// How many bytes a store buffer has.
+fn whole(buffer: StoreBuffer) -> usize
     ensures { 0 < result }
 {
-    if which == 4 {
-        return FILE_BYTES;
+    match buffer {
+        StoreBuffer::Undo => FILE_BYTES,
+        StoreBuffer::Files | StoreBuffer::Logs | StoreBuffer::Marks => BUFFER_BYTES,
     }
-    BUFFER_BYTES
 }
 
-fn short_length(which: usize, r: usize) -> usize {
-    let n = whole(which);
+fn short_length(buffer: StoreBuffer, r: usize) -> usize {
+    let n = whole(buffer);
     if r % 2 == 0 {
         return n - 1;
     }
     r / 2 % n
 }
 
-// Which forgery the state gets. Fresh reads no state.
-fn forgery(kind: usize, class: usize, r: usize) -> usize {
-    if kind == FRESH {
-        return 0;
+// The short buffer of two calls of 128 and of one that is forged as well.
+fn short_buffer(class: usize, r: [usize; 12]) -> Option<Short> {
+    if class > 2 {
+        return None;
     }
-    if class < 2 {
-        return 0;
-    }
-    if class < 5 {
-        return 1 + r % 27;
-    }
-    0
+    let buffer = store_buffer(r[8]);
+    Some(Short {
+        buffer,
+        length: short_length(buffer, r[9]),
+    })
 }
 
-fn damaged(kind: usize, r: [usize; 12]) -> Damage
-    ensures { (result.transaction < 8) × (result.index < 16) }
-{
-    let class = r[7] % 128;
-    let which = short(class, r[8]);
-    Damage {
-        short: which,
-        length: short_length(which, r[9]),
-        forgery: forgery(kind, class, r[8]),
+// The forgery of three calls of 128. Fresh reads no state.
+fn forged(kind: Kind, class: usize, r: [usize; 12]) -> Option<Forgery> {
+    if kind == Kind::Fresh || !matches!(class, 2..=4) {
+        return None;
+    }
+    Some(Forgery {
+        fault: FAULTS[r[8] % 27],
         transaction: r[9] % 8,
         index: r[9] / 8 % 16,
         excess: r[10],
+    })
+}
+
+fn damaged(kind: Kind, r: [usize; 12]) -> Damage {
+    let class = r[7] % 128;
+    Damage {
+        short: short_buffer(class, r),
+        forgery: forged(kind, class, r),
     }
 }
 
-// Descriptor d belongs to file (factor d + shift) mod 8; factor 1 and shift 0 for three Freshs out of four.
-fn factor(line: usize) -> usize
-    ensures { result < 8 }
-{
-    if line % 4 == 0 {
-        return line / 4 % 8;
-    }
-    1
-}
-
-fn shift(line: usize, r: usize) -> usize
-    ensures { result < 8 }
-{
-    if line % 4 == 0 {
-        return r % 8;
-    }
-    0
-}
-
-fn files_by(factor: usize, shift: usize) -> [u8; 17]
-    requires { (factor < 8) × (shift < 8) }
-{
-    let mut out = [0u8; 17];
+// Descriptor d belongs to file (factor d + shift) mod 8. A sum wraps at a multiple of 8.
+fn files_by(factor: usize, shift: usize) -> [u8; 17] {
+    let mut numbers = [0u8; 17];
     let mut file = shift;
-    let mut d = 0;
-    while d < 17 {
-        out[d] = octet(file);
-        file = (file + factor) % 8;
-        d += 1;
+    for number in numbers.iter_mut() {
+        *number = octet(file % 8);
+        file = file.wrapping_add(factor);
     }
-    out
+    numbers
 }
 
-// Fresh's list; often one number is above 7.
-fn list(r: [usize; 12]) -> [u8; 17] {
-    let mut out = files_by(factor(r[10]), shift(r[10], r[11]));
+// Fresh's list; often one number is above 7. Factor 1 and shift 0 for three Freshs out of four.
+fn file_numbers(r: [usize; 12]) -> NumberList<17> {
+    let mut numbers = if r[10] % 4 == 0 {
+        files_by(r[10] / 4 % 8, r[11] % 8)
+    } else {
+        files_by(1, 0)
+    };
     if r[3] / 8 % 8 < 5 {
-        let d = r[8] % 16;
-        out[d] = octet(8 + r[9] % 248);
+        numbers[r[8] % 16] = octet(8 + r[9] % 248);
     }
-    out
+    NumberList {
+        numbers,
+        len: list_length(r[3], r[4]),
+    }
 }
 
 fn list_length(class: usize, value: usize) -> usize
@@ -727,50 +742,46 @@ fn list_length(class: usize, value: usize) -> usize
     16
 }
 
-// The call of a kind with its transaction, descriptor, file and number, and the end of a window.
-fn call_of(kind: usize, t: usize, d: usize, f: usize, n: usize, end: usize) -> Made {
-    if kind == FRESH {
-        return Made::Fresh;
-    }
-    if kind == DISPATCH {
-        return Made::Dispatch;
-    }
-    if kind == BEST_ORDER {
-        return Made::BestOrder;
-    }
+// The call of a kind and a transaction in a mode that twelve numbers make.
+fn call_of(kind: Kind, t: usize, mode: Mode, guess: Guess, r: [usize; 12]) -> Made {
+    let d = descriptor(mode, t, r[2]);
+    let f = file(mode, r[2]);
+    let n = argument(kind, mode, r[3] % 16, r[4]);
     match kind {
-        BEGIN => Made::Asks(Request::Begin(t)),
-        SEEK => Made::Asks(Request::Seek(t, d, n)),
-        WRITE => Made::Asks(Request::Write(t, d)),
-        GET_FILE_POINTER => Made::Asks(Request::GetFilePointer(t, d)),
-        READ => Made::Asks(Request::Read(t, d, n)),
-        PLACES => Made::Asks(Request::Places(t, f)),
-        COMMIT => Made::Asks(Request::Commit(t, n)),
-        ABORT => Made::Asks(Request::Abort(t)),
-        UNDO_COMMIT => Made::Asks(Request::UndoCommit),
-        _ => Made::Asks(Request::SetWindow(f, n, end)),
+        Kind::Fresh => Made::Fresh(file_numbers(r)),
+        Kind::Begin => Made::Asks(Request::Begin(t)),
+        Kind::Seek => Made::Asks(Request::Seek(t, d, n)),
+        Kind::Write => Made::Asks(Request::Write(t, d)),
+        Kind::GetFilePointer => Made::Asks(Request::GetFilePointer(t, d)),
+        Kind::Read => Made::Asks(Request::Read(t, d, n)),
+        Kind::Places => Made::Asks(Request::Places(t, f)),
+        Kind::Commit => Made::Asks(Request::Commit(t, n)),
+        Kind::Abort => Made::Asks(Request::Abort(t)),
+        Kind::SetWindow => Made::Asks(Request::SetWindow(f, n, window_end(n, r))),
+        Kind::UndoCommit => Made::Asks(Request::UndoCommit),
+        Kind::Dispatch => Made::Dispatch(planned(r)),
+        Kind::BestOrder => Made::BestOrder(asked_order(r, guess)),
     }
 }
 
 // How many scripts a dispatcher has: one to eight, sometimes none or too many.
 fn script_count(class: usize, value: usize) -> usize {
-    if class == 0 {
-        return 9 + value % 8;
+    match class {
+        0 => 9 + value % 8,
+        1 => 0,
+        _ => 1 + value % 8,
     }
-    if class == 1 {
-        return 0;
-    }
-    1 + value % 8
 }
 
-// One of eight scripts for one dispatcher out of n, otherwise none.
-fn one_of(r: usize, n: usize) -> usize
+// One of eight scripts for one dispatcher out of n. No other function divides by what it is given, so that n
+// has no type of its own.
+fn one_of(r: usize, n: usize) -> Option<usize>
     requires { 0 < n }
 {
     if r % n == 0 {
-        return r / n % 8;
+        return Some(r / n % 8);
     }
-    16
+    None
 }
 
 // The numbers of a dispatcher's scripts.
@@ -786,81 +797,46 @@ fn planned(r: [usize; 12]) -> Plan {
     }
 }
 
-// How many bytes are lent beside a call: a Write's, or a dispatcher's data.
-fn lent_size(kind: usize, n: usize, data: usize) -> usize {
-    if kind == DISPATCH {
-        return data;
-    }
-    n
-}
-
-// The list with transaction t behind it, where it is taken.
-fn joined(m: Ready, t: usize, is_taken: bool) -> Ready
-    requires { m.listed < 8 }
-    ensures { result.listed ≤ m.listed + 1 }
-{
-    let mut out = m;
-    let n = m.listed;
-    if is_taken {
-        out.list[n] = octet(t);
-        out.listed = n + 1;
-    }
-    out
-}
-
 // Transactions for an order: those that are guessed open, or any, at most so many, from a start on by steps.
-fn members(open: [bool; 8], any: bool, most: usize, start: usize, step: usize, fill: u8) -> Ready
-    requires { (start < 8) × (step < 8) }
-    ensures { result.listed ≤ 8 }
-{
-    let mut m = Ready {
-        list: [fill; 10],
-        listed: 0,
-        minute: 0,
-        budget: 0,
-    };
+// A sum wraps at a multiple of 8.
+fn members(guess: Guess, any: bool, most: usize, start: usize, step: usize) -> NumberList<10> {
+    let mut list = NumberList::new();
     let mut t = start;
-    let mut i = 0usize;
-    while i < 8 {
-        m = joined(m, t, (open[t] | any) & (m.listed < most));
-        t = (t + step) % 8;
-        i += 1;
+    for _ in 0..TRANSACTIONS {
+        let member = t % 8;
+        if (guess.open[member] || any) && list.len < most {
+            list.push(octet(member));
+        }
+        t = t.wrapping_add(step);
     }
-    m
+    list
 }
 
-// The list as it is asked about: now and then empty, with a repeat, or with numbers above 7 behind it.
-fn listed(m: Ready, class: usize) -> Ready
-    requires { m.listed ≤ 8 }
-{
-    let mut out = m;
-    let n = m.listed;
-    let first = m.list[0];
+// The list as it is asked about: now and then empty, with a repeat, or with a number above 7 behind it, once
+// or twice.
+fn listed(mut list: NumberList<10>, class: usize, above: u8) -> NumberList<10> {
+    let first = list.as_slice().first().copied().unwrap_or(above);
     match class {
-        1 => out.listed = 0,
-        2 => {
-            out.list[n] = first;
-            out.listed = n + 1;
+        1 => list = NumberList::new(),
+        2 => list.push(first),
+        3 | 5 => list.push(above),
+        4 => {
+            list.push(above);
+            list.push(above);
         }
-        3 => out.listed = n + 1,
-        4 => out.listed = n + 2,
-        5 => out.listed = n + 1,
         _ => {}
     }
-    out
+    list
 }
 
 // Mostly up to 30 orders, often as many as there are of one to five transactions; now and then 0, or 40,320
 // and more. A larger budget is given to short lists only.
 fn budget(length: usize, class: usize, value: usize) -> usize {
-    if (class == 2) & (length < 5) {
-        return 40320;
-    }
     match class {
         0 => 0,
         1 => 40321 + value % 25000,
-        2 => 120,
-        3 => 120,
+        2 if length < 5 => 40320,
+        2 | 3 => 120,
         4 => 24,
         5 => 6,
         6 => 2,
@@ -870,82 +846,56 @@ fn budget(length: usize, class: usize, value: usize) -> usize {
 }
 
 // What is asked about an order, by twelve numbers and the transactions that are guessed open.
-fn asked_order(r: [usize; 12], open: [bool; 8]) -> Ready {
+fn asked_order(r: [usize; 12], guess: Guess) -> Ready {
     let class = r[3] % 32;
-    let any = (class == 0) | (class == 3) | (class == 5);
-    let mut most = 1 + r[4] % 8;
-    if class == 5 {
-        most = 8;
-    }
+    let any = matches!(class, 0 | 3 | 5);
+    let most = if class == 5 { 8 } else { 1 + r[4] % 8 };
     let step = 1 + 2 * (r[5] / 8 % 4);
-    let m = members(open, any, most, r[5] % 8, step, octet(8 + r[4] / 8 % 2));
-    let mut out = listed(m, class);
-    out.minute = minute(r[7] / 128 % 16, r[8]);
-    out.budget = budget(out.listed, r[6] % 16, r[6] / 16);
-    out
+    let members = members(guess, any, most, r[5] % 8, step);
+    let list = listed(members, class, octet(8 + r[4] / 8 % 2));
+    Ready {
+        list,
+        minute: minute(r[7] / 128 % 16, r[8]),
+        budget: budget(list.len, r[6] % 16, r[6] / 16),
+    }
 }
 
-// The call of a kind in a mode that twelve numbers make.
-fn call_from(r: [usize; 12], mode: usize, chosen: Chosen, open: [bool; 8]) -> Generated
-    ensures { (result.damage.transaction < 8) × (result.damage.index < 16) }
-{
-    let k = chosen.kind;
-    let t = chosen.transaction;
-    let class = r[3] % 16;
-    let n = argument(k, mode, class, r[4]);
-    let d = damaged(k, r);
-    let list = list(r);
-    let plan = planned(r);
-    let ready = asked_order(r, open);
+// The call of a kind in a mode, and what is lent with it, that twelve numbers make.
+fn call_from(r: [usize; 12], mode: Mode, kind: Kind, t: usize, guess: Guess) -> Generated {
+    let made = call_of(kind, t, mode, guess, r);
+    let size = match made {
+        Made::Dispatch(plan) => plan.data,
+        _ => argument(kind, mode, r[3] % 16, r[4]),
+    };
     Generated {
-        made: call_of(
-            k,
-            t,
-            descriptor(mode, t, r[2]),
-            file(mode, r[2]),
-            n,
-            window_end(n, r),
-        ),
-        transaction: t,
-        size: lent_size(k, n, plan.data),
+        made,
+        size,
         first: written(r[5], r[6]),
         step: written(r[6], r[6]),
-        buffer: buffer(k, mode, r),
-        list,
-        listed: list_length(r[3], r[4]),
-        plan,
-        ready,
-        damage: d,
+        buffer: buffer(kind, mode, r),
+        damage: damaged(kind, r),
     }
 }
 
 // The Fresh with which a phase of the quiet or the ready mode starts: descriptor d belongs to file d mod 8.
-fn fresh_start(r: [usize; 12], mode: usize, open: [bool; 8]) -> Generated
-    ensures { (result.damage.transaction < 8) × (result.damage.index < 16) }
-{
-    let chosen = Chosen {
-        kind: FRESH,
-        transaction: 0,
-    };
-    let mut g = call_from(r, mode, chosen, open);
-    let list = files_by(1, 0);
-    g.list = list;
-    g.listed = 16;
+fn fresh_start(r: [usize; 12], mode: Mode, guess: Guess) -> Generated {
+    let mut g = call_from(r, mode, Kind::Fresh, 0, guess);
+    g.made = Made::Fresh(NumberList {
+        numbers: files_by(1, 0),
+        len: 16,
+    });
     g
 }
 
 // Call i that twelve numbers make.
-pub fn requested(r: [usize; 12], i: usize, open: [bool; 8], sought: [bool; 8]) -> Generated
-    requires { i < 16777216 }
-    ensures { (result.damage.transaction < 8) × (result.damage.index < 16) }
-{
+pub fn requested(r: [usize; 12], i: usize, guess: Guess) -> Generated {
     let phase = i / 256;
-    let mode = phase % MODES;
-    if (QUIET <= mode) & (i % 256 == 0) {
-        return fresh_start(r, mode, open);
+    let mode = Mode::of_phase(phase);
+    if mode.starts_fresh() && i % 256 == 0 {
+        return fresh_start(r, mode, guess);
     }
     let t = transaction(phase, r[1]);
-    let k = sought_first(mode, kind(mode, r[0]), t, sought);
-    let chosen = fitted(mode, k, t, open, r);
-    call_from(r, mode, chosen, open)
+    let drawn = sought_first(mode, weighted_kind(mode, r[0]), t, guess);
+    let (kind, t) = fitted(mode, drawn, t, guess, r);
+    call_from(r, mode, kind, t, guess)
 }

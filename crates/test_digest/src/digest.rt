@@ -1,324 +1,245 @@
 // Digests of the state and of the answers: from 0, h' = (65521 h + n + 1) mod 281474976710597 for each number
 // n.
-ghost use Rattle.std.specs.Prelude.{◌<◌};
-ghost use Rattle.test_digest.specs.Bounds.{Digest};
+ghost use Rattle.std.specs.Prelude.{ℕ, ◌<◌};
 
 use crate::outcomes;
 use dispatcher::ends::{End, Ended};
 use dispatcher::scripts::SCRIPTS;
-use limits::smaller;
 use standings::{Place, Standing};
 use state::journal::{LAST_GRANT, RECORDS, WriteRecord, record_at};
 use state::layout::{
-    FOUND, State, can_undo, file_at, found_length_at, found_offset_at, length_at, offset_at,
+    State, can_undo, file_at, found_length_at, found_offset_at, length_at, offset_at,
     transaction_at, undo_used, window_at,
 };
-use state::outcomes::Outcome;
+use state::outcomes::{Answer, Outcome};
 use state::{DESCRIPTORS, FILES, TRANSACTIONS, Transaction};
 
-fn taken(h: usize, n: u16) -> usize
-    requires { Digest h }
-    ensures { Digest result }
-{
-    (65521 * h + n as usize + 1) % 281474976710597
+// A digest is a remainder by 2^48 - 59, so that its next step stays within 64 bits.
+#[derive(Clone, Copy)]
+pub struct Digest {
+    pub value: usize,
+    ghost in_range: { value < 281474976710597 },
 }
 
-fn octet_taken(h: usize, n: u8) -> usize
-    requires { Digest h }
-    ensures { Digest result }
-{
-    taken(h, n as u16)
-}
-
-fn flag_taken(h: usize, flag: bool) -> usize
-    requires { Digest h }
-    ensures { Digest result }
-{
-    if flag {
-        return taken(h, 1);
+impl Digest {
+    // The digest of nothing.
+    pub fn new() -> Digest {
+        Digest { value: 0 }
     }
-    taken(h, 0)
-}
 
-fn octets_taken(h: usize, octets: &[u8]) -> usize
-    requires { Digest h }
-    ensures { Digest result }
-{
-    let mut out = h;
-    let mut i = 0;
-    while i < octets.len() {
-        out = octet_taken(out, octets[i]);
-        i += 1;
+    // The digest of a state: what it says, however it is arranged, then the store buffers.
+    pub fn of_state(state: &State, files: &[u8], logs: &[u8], marks: &[u8], undo: &[u8]) -> Digest {
+        Digest::new()
+            .committed_taken(state)
+            .transactions_taken(state)
+            .undo_taken(state)
+            .octets_taken(files)
+            .octets_taken(logs)
+            .octets_taken(marks)
+            .octets_taken(undo)
     }
-    out
-}
 
-fn three_taken(h: usize, which: u16, advance: u16, offset: u16) -> usize
-    requires { Digest h }
-    ensures { Digest result }
-{
-    taken(taken(taken(h, which), advance), offset)
-}
-
-fn standing_taken(h: usize, standing: Standing) -> usize
-    requires { Digest h }
-    ensures { Digest result }
-{
-    match standing {
-        Standing::Untouched => three_taken(h, 0, 0, 0),
-        Standing::Placed(offset) => three_taken(h, 1, 0, offset),
-        Standing::Deferred(advance) => three_taken(h, 2, advance, 0),
-        Standing::Moved { advance, offset } => three_taken(h, 3, advance, offset),
-        Standing::Known(offset) => three_taken(h, 4, 0, offset),
+    // Takes in that a dispatcher ran: its Commits, the ends of its scripts, and the reader's buffer after it.
+    pub fn ran_taken(
+        self,
+        commits: usize,
+        ends: [Ended; SCRIPTS],
+        scripts: usize,
+        buffer: &[u8],
+    ) -> Digest {
+        self.taken(5)
+            .taken(commits.min(65535) as u16)
+            .ends_taken(ends, scripts)
+            .octets_taken(buffer)
     }
-}
 
-fn descriptors_taken(h: usize, x: Transaction) -> usize
-    requires { Digest h }
-    ensures { Digest result }
-{
-    let mut out = h;
-    let mut d = 0;
-    while d < 16 {
-        let descriptor = x.descriptors[d];
-        let standing = descriptor.standing;
-        out = flag_taken(standing_taken(out, standing), descriptor.dirty);
-        d += 1;
+    // Takes in a best order's answer: its grants, the gap, how many orders were tried, and the order of n
+    // transactions, at most eight.
+    pub fn ordered_taken(self, outcome: Outcome, order: [u8; 8], n: usize) -> Digest {
+        let Ok(Answer::Ordered(grants, gap, tried)) = outcome else {
+            return self.reply_taken(outcome, &[]);
+        };
+        self.taken(6)
+            .octet_taken(grants)
+            .octet_taken(gap)
+            .taken(tried)
+            .octets_taken(&order[..n.min(8)])
     }
-    out
-}
 
-fn write_taken(h: usize, w: WriteRecord) -> usize
-    requires { Digest h }
-    ensures { Digest result }
-{
-    let place = w.place;
-    let out = taken(h, w.descriptor);
-    match place {
-        Place::At(p) => three_taken(out, 1, p, w.length),
-        Place::After(a) => three_taken(out, 0, a, w.length),
+    // Takes in an outcome, and the buffer lent for the answer, after the call.
+    pub fn reply_taken(self, outcome: Outcome, buffer: &[u8]) -> Digest {
+        self.taken(outcomes::outcome_code(outcome))
+            .taken(outcomes::outcome_number(outcome))
+            .octets_taken(buffer)
     }
-}
 
-// The first n write records of transaction t, at most 64.
-fn writes_taken(h: usize, state: &State, t: usize, n: usize) -> usize
-    requires { Digest h × (t < 8) }
-    ensures { Digest result }
-{
-    let records = smaller(n, RECORDS);
-    let mut out = h;
-    let mut k = 0;
-    while k < records {
-        out = write_taken(out, record_at(state, t, k));
-        k += 1;
+    fn taken(self, n: u16) -> Digest {
+        Digest {
+            value: (65521 * self.value + usize::from(n) + 1) % 281474976710597,
+        }
     }
-    out
-}
 
-// A number of the record has sixteen bits; so has that of the records used.
-fn transaction_taken(h: usize, state: &State, t: usize) -> usize
-    requires { Digest h × (t < 8) }
-    ensures { Digest result }
-{
-    let x = transaction_at(state, t);
-    let used = x.used;
-    let records = smaller(used.records, 65535);
-    let flags = flag_taken(flag_taken(h, x.begun), x.stale);
-    let counters = taken(taken(flags, records as u16), used.bytes);
-    let sighted = taken(counters, x.lengthmarks);
-    writes_taken(descriptors_taken(sighted, x), state, t, records)
-}
-
-fn transactions_taken(h: usize, state: &State) -> usize
-    requires { Digest h }
-    ensures { Digest result }
-{
-    let mut out = h;
-    let mut t = 0;
-    while t < TRANSACTIONS {
-        out = transaction_taken(out, state, t);
-        t += 1;
+    fn octet_taken(self, n: u8) -> Digest {
+        self.taken(u16::from(n))
     }
-    out
-}
 
-// Start and end of the windows, number by number.
-fn minute_at(state: &State, i: usize) -> u16
-    requires { i < 16 }
-{
-    let w = window_at(state, i / 2);
-    if i % 2 == 0 {
-        return w.start;
+    fn flag_taken(self, flag: bool) -> Digest {
+        self.taken(u16::from(flag))
     }
-    w.end
-}
 
-// How many numbers are committed, without the windows and with them.
-const COMMITTED: usize = 2 * DESCRIPTORS + FILES;
-
-const WITH_WINDOWS: usize = COMMITTED + 2 * FILES;
-
-// What is committed, number by number: the files of the descriptors, their offsets, the lengths of the files;
-// then the windows of the files.
-fn committed_at(state: &State, i: usize) -> u16
-    requires { i < 56 }
-{
-    if i < DESCRIPTORS {
-        return file_at(state, i);
+    fn octets_taken(self, octets: &[u8]) -> Digest {
+        let mut out = self;
+        for octet in octets {
+            out = out.octet_taken(*octet);
+        }
+        out
     }
-    if i < 2 * DESCRIPTORS {
-        return offset_at(state, i - DESCRIPTORS);
-    }
-    if i < COMMITTED {
-        return length_at(state, i - 2 * DESCRIPTORS);
-    }
-    minute_at(state, i - COMMITTED)
-}
 
-fn committed_taken(h: usize, state: &State) -> usize
-    requires { Digest h }
-    ensures { Digest result }
-{
-    let mut out = h;
-    let mut i = 0;
-    while i < WITH_WINDOWS {
-        out = taken(out, committed_at(state, i));
-        i += 1;
+    // Takes in f(0) and so on, n numbers.
+    fn numbers_taken<F: Fn(usize) -> u16>(self, n: usize, f: F) -> Digest
+        requires { (i : ℕ) → i < n → F.pre f i }
+    {
+        let mut out = self;
+        for i in 0..n {
+            out = out.taken(f(i));
+        }
+        out
     }
-    out
-}
 
-// The write records of the last grant, at most 64: descriptor, place and length of each.
-fn landed_taken(h: usize, state: &State, n: usize) -> usize
-    requires { Digest h }
-    ensures { Digest result }
-{
-    let records = smaller(n, RECORDS);
-    let mut out = h;
-    let mut k = 0;
-    while k < records {
-        let w = record_at(state, LAST_GRANT, k);
+    fn three_taken(self, which: u16, advance: u16, offset: u16) -> Digest {
+        self.taken(which).taken(advance).taken(offset)
+    }
+
+    fn standing_taken(self, standing: Standing) -> Digest {
+        match standing {
+            Standing::Untouched => self.three_taken(0, 0, 0),
+            Standing::Placed(offset) => self.three_taken(1, 0, offset),
+            Standing::Deferred(advance) => self.three_taken(2, advance, 0),
+            Standing::Moved { advance, offset } => self.three_taken(3, advance, offset),
+            Standing::Known(offset) => self.three_taken(4, 0, offset),
+        }
+    }
+
+    fn descriptors_taken(self, x: Transaction) -> Digest {
+        let mut out = self;
+        for descriptor in &x.descriptors {
+            out = out
+                .standing_taken(descriptor.standing)
+                .flag_taken(descriptor.dirty);
+        }
+        out
+    }
+
+    fn write_taken(self, w: WriteRecord) -> Digest {
         let place = w.place;
-        out = three_taken(out, w.descriptor, place.place_number(), w.length);
-        k += 1;
+        let out = self.taken(w.descriptor);
+        match place {
+            Place::At(p) => out.three_taken(1, p, w.length),
+            Place::After(a) => out.three_taken(0, a, w.length),
+        }
     }
-    out
-}
 
-// What the last grant found, number by number: the offsets of the descriptors, then the lengths of the files.
-fn found_at(state: &State, i: usize) -> u16
-    requires { i < 24 }
-{
-    if i < DESCRIPTORS {
-        return found_offset_at(state, i);
+    // The first n write records of transaction t, at most 64.
+    fn writes_taken(self, state: &State, t: usize, n: usize) -> Digest
+        requires { t < 8 }
+    {
+        let records = n.min(RECORDS);
+        let mut out = self;
+        for k in 0..records {
+            out = out.write_taken(record_at(state, t, k));
+        }
+        out
     }
-    found_length_at(state, i - DESCRIPTORS)
-}
 
-fn found_taken(h: usize, state: &State) -> usize
-    requires { Digest h }
-    ensures { Digest result }
-{
-    let mut out = h;
-    let mut i = 0;
-    while i < FOUND {
-        out = taken(out, found_at(state, i));
-        i += 1;
+    // A number of the record has sixteen bits; so has that of the records used.
+    fn transaction_taken(self, state: &State, t: usize) -> Digest
+        requires { t < 8 }
+    {
+        let x = transaction_at(state, t);
+        let used = x.used;
+        let records = used.records.min(65535);
+        self.flag_taken(x.begun)
+            .flag_taken(x.stale)
+            .taken(records as u16)
+            .taken(used.bytes)
+            .taken(x.lengthmarks)
+            .descriptors_taken(x)
+            .writes_taken(state, t, records)
     }
-    out
-}
 
-// What is held of the last grant: whether anything is and, where it is, its counters, its records and what it
-// found.
-fn undo_taken(h: usize, state: &State) -> usize
-    requires { Digest h }
-    ensures { Digest result }
-{
-    if !can_undo(state) {
-        return taken(h, 0);
+    fn transactions_taken(self, state: &State) -> Digest {
+        let mut out = self;
+        for t in 0..TRANSACTIONS {
+            out = out.transaction_taken(state, t);
+        }
+        out
     }
-    let used = undo_used(state);
-    let records = smaller(used.records, 65535);
-    let counters = taken(taken(taken(h, 1), records as u16), used.bytes);
-    found_taken(landed_taken(counters, state, records), state)
-}
 
-// The digest of a state: what it says, however it is arranged, then the store buffers.
-pub fn of_state(state: &State, files: &[u8], logs: &[u8], marks: &[u8], undo: &[u8]) -> usize {
-    let all = undo_taken(transactions_taken(committed_taken(0, state), state), state);
-    let shared = octets_taken(octets_taken(octets_taken(all, files), logs), marks);
-    octets_taken(shared, undo)
+    // Takes in start and end of each window.
+    fn windows_taken(self, state: &State) -> Digest {
+        let mut out = self;
+        for f in 0..FILES {
+            let window = window_at(state, f);
+            out = out.taken(window.start).taken(window.end);
+        }
+        out
+    }
+
+    // Takes in what is committed: the files of the descriptors, their offsets, the lengths of the files, and
+    // the windows of the files.
+    fn committed_taken(self, state: &State) -> Digest {
+        self.numbers_taken(DESCRIPTORS, |d| file_at(state, d))
+            .numbers_taken(DESCRIPTORS, |d| offset_at(state, d))
+            .numbers_taken(FILES, |f| length_at(state, f))
+            .windows_taken(state)
+    }
+
+    // The write records of the last grant, at most 64: descriptor, place and length of each.
+    fn landed_taken(self, state: &State, n: usize) -> Digest {
+        let records = n.min(RECORDS);
+        let mut out = self;
+        for k in 0..records {
+            let w = record_at(state, LAST_GRANT, k);
+            out = out.three_taken(w.descriptor, w.place.place_number(), w.length);
+        }
+        out
+    }
+
+    // Takes in what the last grant found: the offsets of the descriptors, and the lengths of the files.
+    fn found_taken(self, state: &State) -> Digest {
+        self.numbers_taken(DESCRIPTORS, |d| found_offset_at(state, d))
+            .numbers_taken(FILES, |f| found_length_at(state, f))
+    }
+
+    // What is held of the last grant: whether anything is and, where it is, its counters, its records and
+    // what it found.
+    fn undo_taken(self, state: &State) -> Digest {
+        if !can_undo(state) {
+            return self.taken(0);
+        }
+        let used = undo_used(state);
+        let records = used.records.min(65535);
+        self.taken(1)
+            .taken(records as u16)
+            .taken(used.bytes)
+            .landed_taken(state, records)
+            .found_taken(state)
+    }
+
+    // The ends of the first n scripts, at most eight.
+    fn ends_taken(self, ends: [Ended; SCRIPTS], n: usize) -> Digest {
+        let mut out = self;
+        for end in ends.iter().take(n) {
+            out = out.taken(end_number(*end));
+        }
+        out
+    }
 }
 
 // How a script ended: 0 where it was granted, otherwise the refusal's number.
 fn end_number(e: Ended) -> u16 {
-    let end = e.end;
-    match end {
-        End::Unfinished => 0,
-        End::Granted => 0,
-        End::Failed(r) => r.number() as u16,
+    match e.end {
+        End::Unfinished | End::Granted => 0,
+        End::Failed(r) => u16::from(r.number()),
     }
-}
-
-// The ends of the first n scripts, at most eight.
-fn ends_taken(h: usize, ends: [Ended; 8], n: usize) -> usize
-    requires { Digest h }
-    ensures { Digest result }
-{
-    let scripts = smaller(n, SCRIPTS);
-    let mut out = h;
-    let mut k = 0;
-    while k < scripts {
-        let e = ends[k];
-        out = taken(out, end_number(e));
-        k += 1;
-    }
-    out
-}
-
-// Takes in that a dispatcher ran: its Commits, the ends of its scripts, and the reader's buffer after it.
-pub fn ran_taken(h: usize, commits: usize, ends: [Ended; 8], scripts: usize, buffer: &[u8]) -> usize
-    requires { Digest h }
-    ensures { Digest result }
-{
-    let counted = taken(taken(h, 5), smaller(commits, 65535) as u16);
-    octets_taken(ends_taken(counted, ends, scripts), buffer)
-}
-
-// The first n numbers of an order, at most eight.
-fn order_taken(h: usize, order: [u8; 8], n: usize) -> usize
-    requires { Digest h }
-    ensures { Digest result }
-{
-    let listed = smaller(n, 8);
-    let mut out = h;
-    let mut k = 0;
-    while k < listed {
-        out = octet_taken(out, order[k]);
-        k += 1;
-    }
-    out
-}
-
-// Takes in a best order's answer: its grants, the gap, how many orders were tried, and the order of n
-// transactions.
-pub fn ordered_taken(h: usize, outcome: Outcome, order: [u8; 8], n: usize) -> usize
-    requires { Digest h }
-    ensures { Digest result }
-{
-    let Outcome::Ordered(grants, gap, tried) = outcome else {
-        return reply_taken(h, outcome, &[]);
-    };
-    let numbers = octet_taken(octet_taken(taken(h, 6), grants), gap);
-    order_taken(taken(numbers, tried), order, n)
-}
-
-// Takes in an outcome, and the buffer lent for the answer, after the call.
-pub fn reply_taken(h: usize, outcome: Outcome, buffer: &[u8]) -> usize
-    requires { Digest h }
-    ensures { Digest result }
-{
-    let code = outcomes::outcome_code(outcome);
-    let number = outcomes::outcome_number(outcome);
-    octets_taken(taken(taken(h, code), number), buffer)
 }

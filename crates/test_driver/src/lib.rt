@@ -3,10 +3,12 @@
 
 ghost use Rattle.std.specs.Prelude.{◌≡◌, ◌≤◌, length, take};
 
-use dispatcher::ends::{Dispatched, End, Ended};
+use dispatcher::ends::{Dispatched, Ended};
+use dispatcher::scripts::SCRIPTS;
 use state::layout::State;
-use state::outcomes::Outcome;
-use test_calls::{Generated, Made, Ready};
+use state::outcomes::{Answer, Outcome};
+use store::Store;
+use test_calls::{Generated, Made, NumberList, Ready, StoreBuffer};
 use test_scripts::Plan;
 
 // What stands in a buffer lent for an answer.
@@ -17,84 +19,58 @@ pub fn within(n: usize, buffer: &[u8]) -> usize
     ensures within { result ≤ length buffer.now }
     ensures front { result ≡ length (take result buffer.now) }
 {
-    if n < buffer.len() {
-        return n;
-    }
-    buffer.len()
+    n.min(buffer.len())
 }
 
 // Fills a buffer: each byte is step more than the one before, mod 256.
 fn put(bytes: &mut [u8], first: u8, step: u8) {
     let mut byte = first;
-    let mut i = 0;
-    while i < bytes.len() {
-        bytes[i] = byte;
-        byte = std::num::wrapping_add_u8(byte, step);
-        i += 1;
+    for place in bytes.iter_mut() {
+        *place = byte;
+        byte = byte.wrapping_add(step);
     }
 }
 
-// How many bytes of store buffer `which` are lent.
-fn lent(g: Generated, which: usize, buffer: &[u8]) -> usize
+// How many bytes of a store buffer are lent: all, where it is not the short one.
+fn lent(g: Generated, which: StoreBuffer, buffer: &[u8]) -> usize
     ensures within { result ≤ length buffer.now }
     ensures front { result ≡ length (take result buffer.now) }
 {
-    if g.damage.short == which {
-        return within(g.damage.length, buffer);
+    match g.damage.short {
+        Some(short) if short.buffer == which => within(short.length, buffer),
+        _ => within(buffer.len(), buffer),
     }
-    within(buffer.len(), buffer)
 }
 
-// What a generated call came to. Of a dispatcher that ran: how many scripts it had, the end of each, and the
-// number of Commits that it made.
+// What a generated call came to.
 #[derive(Clone, Copy)]
-pub struct Performance {
-    pub outcome: Outcome,
-    pub ran: bool,
-    pub scripts: usize,
-    pub ends: [Ended; 8],
-    pub commits: usize,
-    // Of a best order: it, and how many transactions it has.
-    pub order: [u8; 8],
-    pub listed: usize,
-}
-
-// What a call came to that is no dispatcher.
-fn single(outcome: Outcome) -> Performance {
-    let e = Ended {
-        end: End::Unfinished,
-    };
-    Performance {
-        outcome,
-        ran: false,
-        scripts: 0,
-        ends: [e; 8],
-        commits: 0,
-        order: [0u8; 8],
-        listed: 0,
-    }
-}
-
-// A call was accepted, and answered plainly.
-fn is_done(o: Outcome) -> bool {
-    match o {
-        Outcome::Done => true,
-        _ => false,
-    }
+pub enum Performance {
+    Answered(Outcome),
+    // Of a dispatcher that ran: how many scripts it had, the end of each, and the number of Commits that it
+    // made.
+    Ran {
+        scripts: usize,
+        ends: [Ended; SCRIPTS],
+        commits: usize,
+    },
+    // Of a best order: its outcome, it, and how many transactions it has.
+    Ordered {
+        outcome: Outcome,
+        order: [u8; 8],
+        listed: usize,
+    },
 }
 
 // What a dispatcher of so many scripts came to.
 fn several(d: Dispatched, scripts: usize) -> Performance {
-    let outcome = d.outcome;
     let ends = d.ends;
-    Performance {
-        outcome,
-        ran: is_done(outcome),
-        scripts,
-        ends,
-        commits: d.commits,
-        order: [0u8; 8],
-        listed: 0,
+    match d.outcome {
+        Ok(Answer::Done) => Performance::Ran {
+            scripts,
+            ends,
+            commits: d.commits,
+        },
+        outcome => Performance::Answered(outcome),
     }
 }
 
@@ -105,11 +81,9 @@ fn made_fresh(
     logs: &[u8],
     marks: &mut [u8],
     undo: &[u8],
-    g: Generated,
+    list: NumberList<17>,
 ) -> Outcome {
-    let list = g.list;
-    let n = within(g.listed, &list);
-    store::fresh(state, files, logs, marks, undo, &list[..n])
+    store::fresh(state, files, logs, marks, undo, list.as_slice())
 }
 
 // Runs the planned scripts.
@@ -147,24 +121,26 @@ fn ordered<'a>(
     undo: &'a [u8],
     ready: Ready,
 ) -> Performance {
-    let list = ready.list;
-    let n = within(ready.listed, &list);
+    let list = ready.list.as_slice();
     let b = call_order::best_order(
         state,
         files,
         logs,
         marks,
         undo,
-        &list[..n],
+        list,
         ready.minute,
         ready.budget,
     );
-    let outcome = b.outcome;
+    if list.is_empty() {
+        return Performance::Answered(b.outcome);
+    }
     let order = b.order;
-    let mut came = single(outcome);
-    came.order = order;
-    came.listed = n;
-    came
+    Performance::Ordered {
+        outcome: b.outcome,
+        order,
+        listed: list.len(),
+    }
 }
 
 // Performs the call on the buffers that are lent.
@@ -178,16 +154,15 @@ fn on_lent(
     bytes: &mut [u8],
     reader: &mut [u8],
 ) -> Performance {
-    let made = g.made;
-    let plan = g.plan;
-    let ready = g.ready;
     put(bytes, g.first, g.step);
     put(reader, FILLED, 0);
-    match made {
-        Made::Fresh => single(made_fresh(state, files, logs, marks, undo, g)),
-        Made::Dispatch => dispatched(state, files, logs, marks, undo, plan, bytes, reader),
-        Made::BestOrder => ordered(state, files, logs, marks, undo, ready),
-        Made::Asks(q) => single(requests::perform(
+    match g.made {
+        Made::Fresh(list) => Performance::Answered(made_fresh(
+            state, files, logs, marks, undo, list,
+        )),
+        Made::Dispatch(plan) => dispatched(state, files, logs, marks, undo, plan, bytes, reader),
+        Made::BestOrder(ready) => ordered(state, files, logs, marks, undo, ready),
+        Made::Asks(q) => Performance::Answered(requests::perform(
             state, files, logs, marks, undo, q, bytes, reader,
         )),
     }
@@ -195,23 +170,23 @@ fn on_lent(
 
 // Performs the call, with a short store buffer where it says so.
 pub fn performed(
-    state: &mut State,
-    files: &mut [u8],
-    logs: &mut [u8],
-    marks: &mut [u8],
-    undo: &mut [u8],
+    store: &mut Store,
     g: Generated,
     bytes: &mut [u8],
     reader: &mut [u8],
 ) -> Performance {
-    let f = lent(g, 1, files);
-    let l = lent(g, 2, logs);
-    let m = lent(g, 3, marks);
-    let u = lent(g, 4, undo);
+    let files = &mut store.files[..];
+    let logs = &mut store.logs[..];
+    let marks = &mut store.marks[..];
+    let undo = &mut store.undo[..];
+    let f = lent(g, StoreBuffer::Files, files);
+    let l = lent(g, StoreBuffer::Logs, logs);
+    let m = lent(g, StoreBuffer::Marks, marks);
+    let u = lent(g, StoreBuffer::Undo, undo);
     let n = within(g.size, bytes);
     let r = within(g.buffer, reader);
     on_lent(
-        state,
+        &mut store.state,
         &mut files[..f],
         &mut logs[..l],
         &mut marks[..m],

@@ -2,51 +2,33 @@
 // `no`.
 #![tactic(auto)]
 
-use limits::{BUFFER_BYTES, FILE_BYTES};
-use state::layout::{STATE_LEN, State};
 use std::io;
-use store::{Buffer, UndoLog};
+use store::Store;
 
 mod letters;
 mod script;
 
 fn print(rt: &impl Print, letter: &str, ok: bool) -> io::Result<()> {
-    if ok {
-        println!(rt; "{letter} ok")
-    } else {
-        println!(rt; "{letter} no")
-    }
+    let verdict = if ok { "ok" } else { "no" };
+    println!(rt; "{letter} {verdict}")
 }
 
-fn run_situations(
-    rt: &impl Print,
-    state: &mut State,
-    files: &mut Buffer,
-    logs: &mut Buffer,
-    marks: &mut Buffer,
-    undo: &mut UndoLog,
-) -> io::Result<()> {
-    print(rt, "a", letters::a(state, files, logs, marks, undo))?;
-    print(rt, "b", letters::b(state, files, logs, marks, undo))?;
-    print(rt, "c", letters::c(state, files, logs, marks, undo))?;
-    print(rt, "d", letters::d(state, files, logs, marks, undo))?;
-    print(rt, "e", letters::e(state, files, logs, marks, undo))?;
-    print(rt, "f", letters::f(state, files, logs, marks, undo))?;
-    print(rt, "g", letters::g(state, files, logs, marks, undo))?;
-    print(rt, "h", letters::h(state, files, logs, marks, undo))?;
-    print(rt, "i", letters::i(state, files, logs, marks, undo))?;
-    print(rt, "j", letters::j(state, files, logs, marks, undo))?;
-    print(rt, "k", letters::k(state, files, logs, marks, undo))?;
-    print(rt, "l", letters::l(state, files, logs, marks, undo))
+fn run_situations(rt: &impl Print, store: &mut Store) -> io::Result<()> {
+    print(rt, "a", letters::a(store))?;
+    print(rt, "b", letters::b(store))?;
+    print(rt, "c", letters::c(store))?;
+    print(rt, "d", letters::d(store))?;
+    print(rt, "e", letters::e(store))?;
+    print(rt, "f", letters::f(store))?;
+    print(rt, "g", letters::g(store))?;
+    print(rt, "h", letters::h(store))?;
+    print(rt, "i", letters::i(store))?;
+    print(rt, "j", letters::j(store))?;
+    print(rt, "k", letters::k(store))?;
+    print(rt, "l", letters::l(store))
 }
 
 fn main(rt: HostRuntime) -> io::Result<()> {
-    let mut state = [0u16; STATE_LEN];
-    let mut files = [0u8; BUFFER_BYTES];
-    let mut logs = [0u8; BUFFER_BYTES];
-    let mut marks = [0u8; BUFFER_BYTES];
-    let mut undo = [0u8; FILE_BYTES];
-    run_situations(
-        &rt, &mut state, &mut files, &mut logs, &mut marks, &mut undo,
-    )
+    let mut store = Store::new();
+    run_situations(&rt, &mut store)
 }

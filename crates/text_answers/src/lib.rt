@@ -9,7 +9,7 @@ ghost use Rattle.text_numerals.specs.Put.{Put};
 ghost use Rattle.text_answers.specs.Printed.{ok_bytes, spelled, printed};
 
 use buffers::parts::copy_to;
-use state::outcomes::Outcome;
+use state::outcomes::{Answer, Outcome};
 use text_numerals::{put_byte, put_number, put_pairs};
 
 // A number in decimal.
@@ -17,7 +17,7 @@ fn put_decimal(out: &mut [u8], at: usize, n: u16) -> usize
     requires { at + length (decimal n) ≤ length out.old }
     ensures { Put out.old at (decimal n) out.new result }
 {
-    put_number(out, at, limits::wide(n))
+    put_number(out, at, usize::from(n))
 }
 
 // The two bytes ok.
@@ -58,24 +58,23 @@ fn put_given(out: &mut [u8], at: usize, n: u16, reader: &[u8]) -> usize
     ensures { Put out.old at (ok_bytes (take n reader.now))
         out.new result }
 {
-    let end = limits::smaller(limits::wide(n), reader.len());
+    let end = usize::from(n).min(reader.len());
     put_ok_bytes(out, at, &reader[..end])
 }
 
 // What was answered, without the line's end.
+#[tactic(auto, unfolding(crate::specs::Printed::spelled, state::specs::Outcomes::said))]
 pub fn put_answer(out: &mut [u8], at: usize, outcome: Outcome, reader: &[u8]) -> usize
     requires { at + 8 + 2 * length reader.now ≤ length out.old }
     ensures { Put out.old at (spelled (said outcome) reader.now)
         out.new result }
 {
     match outcome {
-        Outcome::Done => put_ok(out, at),
-        Outcome::Offset(n) => put_ok_number(out, at, n),
-        Outcome::Given(n) => put_given(out, at, n, reader),
-        Outcome::Granted(n) => put_ok_number(out, at, n as u16),
-        Outcome::Pairs(n) => put_ok_number(out, at, n),
-        Outcome::Ordered(n, _, _) => put_ok_number(out, at, n as u16),
-        Outcome::Refused(r) => put_decimal(out, at, r.number() as u16),
+        Ok(Answer::Done) => put_ok(out, at),
+        Ok(Answer::Offset(n) | Answer::Pairs(n)) => put_ok_number(out, at, n),
+        Ok(Answer::Given(n)) => put_given(out, at, n, reader),
+        Ok(Answer::Granted(n) | Answer::Ordered(n, _, _)) => put_ok_number(out, at, u16::from(n)),
+        Err(r) => put_decimal(out, at, r.number() as u16),
     }
 }
 

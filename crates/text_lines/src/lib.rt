@@ -8,7 +8,8 @@ ghost use Rattle.text_lines.specs.Lines.{last_line};
 ghost use Rattle.text_lines.specs.Scans.{NextLine, Went};
 
 // What a scan for the next line end found: whether a line ended, how many bytes of it are pending, and the
-// place after it in the piece.
+// place after it in the piece. `complete` is no Option around the rest: both numbers are the caller's whether a
+// line ended or not.
 #[derive(Clone, Copy)]
 pub struct Scan {
     pub complete: bool,
@@ -26,15 +27,13 @@ pub fn next_line(line: &mut [u8], pending: usize, piece: &[u8], from: usize) -> 
         × Went (length line.old - 1) result from (length piece.now) }
 {
     let mut n = pending;
-    let mut i = from;
-    while i < piece.len() {
+    for i in from..piece.len() {
         let b = piece[i];
-        i += 1;
         if b == b'\n' {
             return Scan {
                 complete: true,
                 pending: n,
-                at: i,
+                at: i + 1,
             };
         }
         if n < line.len() {
@@ -45,7 +44,7 @@ pub fn next_line(line: &mut [u8], pending: usize, piece: &[u8], from: usize) -> 
     Scan {
         complete: false,
         pending: n,
-        at: i,
+        at: piece.len(),
     }
 }
 

@@ -6,10 +6,8 @@ use lib.{ListN.{length, take, drop, get_or, length-drop, length-take, length-app
 use Rattle.text_numerals.specs.{Decimal.{number_text, spaced_texts}, Put.Put}
 use Rattle.text_numerals.proofs.PutLaws.{then, put-preserved, nothing, take_within, append-none, texts-snoc, length-number}
 use Rattle.text_numerals.proofs.PutLaws.{length-texts}
-use Rattle.text_answers.{specs.Printed.{ok, spelled}, proofs.Laws.length-spelled}
-use Rattle.state.specs.Outcomes.{Said, done_answer, pointer, given, granted, pairs, ordered, refused, said}
-use Rattle.state.specs.declared.outcomes.{Outcome.{Outcome, TheVariants.{Done, Offset, Given, Granted, Refused}}}
-use Rattle.state.specs.declared.outcomes.Refusal.{Refusal}
+use Rattle.text_answers.{specs.Printed.{ok}, proofs.Laws.length-spelled}
+use Rattle.state.specs.Outcomes.{Said, done_answer, pointer, given, granted, pairs, ordered, refused}
 use Rattle.text_log.specs.Answers.{words_of, answer_text}
 
 -- ---- words
@@ -75,22 +73,6 @@ length-answer (pairs n) b =
     omega (arith, length-texts (words_of (take (4 * n) b)), length-words (take (4 * n) b), length-take (4 * n) b)
 length-answer (ordered grants gap tried) b = omega (arith, length-texts (grants ∷ gap ∷ tried ∷ b))
 length-answer (refused n) b = omega (arith, length-spelled (refused n) b)
-
-module _ (o : Outcome) (b : List ℕ) where
-  pub done-text : o ≡ Done → answer_text (said o) b ≡ spelled (said o) b
-  done-text e = unfold answer_text said in rw e
-
-  pub offset-text : (n : ℕ) → o ≡ Offset n → answer_text (said o) b ≡ spelled (said o) b
-  offset-text n e = unfold answer_text said in rw e
-
-  pub given-text : (n : ℕ) → o ≡ Given n → answer_text (said o) b ≡ spelled (said o) b
-  given-text n e = unfold answer_text said in rw e
-
-  pub granted-text : (n : ℕ) → o ≡ Granted n → answer_text (said o) b ≡ spelled (said o) b
-  granted-text n e = unfold answer_text said in rw e
-
-  pub refused-text : (r : Refusal) → o ≡ Refused r → answer_text (said o) b ≡ spelled (said o) b
-  refused-text r e = unfold answer_text said in rw e
 
 -- ok, three numbers and a list, put one after the other
 pub best-text : {b o p q r s : List ℕ} {at e f g h k x y z : ℕ} {grants gap tried : ℕ} (order : List ℕ)

@@ -1,26 +1,29 @@
 -- Laws of printable bytes.
-use mathlib.Core.{Bool.{Bool, true, false, ◌&&◌}, List.List, Path.{◌≡◌, refl}}
-use Prim.Native.Nat.{ℕ, suc, ◌+◌, ◌≤◌, ◌<◌}
-use native.Mathlib.Numerals.{add-one}
-use lib.{Dec.leb, ListN.{length, drop, get_or, drop_of_length-le}, Seq.drop-cons}
-use borrow.Author.Tests.{le-leb, lt-leb}
+use Rattle.std.proofs.Common.{Bool, true, false, List, [], ◌∷◌, ◌≡◌, refl, sym, ℕ, zero, suc, ◌≤◌, ◌<◌, length, get_or, arith}
+use borrow.Author.Tests.{le-leb, leb-true}
+use Rattle.admission.proofs.Laws.{and_left, and_right}
 use Rattle.text_log.specs.LogLines.{printable}
 
-and-off : (b c : Bool) → (b && false && c) ≡ false
-and-off true c = refl
-and-off false c = refl
+-- Each byte lies between a space and a tilde.
+abbrev Shown : List ℕ → Type 0
+Shown l = (k : ℕ) → k < length l → (32 ≤ get_or l k 0) × (get_or l k 0 ≤ 126)
 
-module _ (l : List ℕ) (i : ℕ) where
-  pub print-low : i < length l → get_or l i 0 < 32 → printable (drop i l) ≡ false
-  print-low h b = unfold printable in rw (drop-cons l i 0 h, lt-leb 32 (get_or l i 0) b)
+printable-all : (l : List ℕ) → Shown l → printable l ≡ true
+unfolding printable
+printable-all [] h = refl
+printable-all (b ∷ l) h = let z = h 0 (omega arith) in
+    rw (le-leb 32 b z.0, le-leb b 126 z.1) (printable-all l (λ k m. h (suc k) (omega arith)))
 
-  pub print-high : i < length l → 126 < get_or l i 0 → printable (drop i l) ≡ false
-  unfolding printable
-  print-high h b = rw (drop-cons l i 0 h, lt-leb (get_or l i 0) 126 b) (and-off (leb 32 (get_or l i 0)) (printable (drop (suc i) l)))
+shown : (l : List ℕ) → printable l ≡ true → Shown l
+unfolding printable
+shown [] e k h = absurd (omega arith)
+shown (b ∷ l) e zero h = (leb-true 32 b (and_left _ _ (and_left _ _ e)), leb-true b 126 (and_right _ _ (and_left _ _ e)))
+shown (b ∷ l) e (suc k) h = shown l (and_right _ _ e) k (omega arith)
 
-  pub print-more : i < length l → 32 ≤ get_or l i 0 → get_or l i 0 ≤ 126 → printable (drop i l) ≡ printable (drop (i + 1) l)
-  unfolding printable
-  print-more h a b = rw (drop-cons l i 0 h, le-leb 32 (get_or l i 0) a, le-leb (get_or l i 0) 126 b, add-one i)
-
-  pub print-end : length l ≤ i → printable (drop i l) ≡ true
-  print-end h = unfold printable in rw (drop_of_length-le l h)
+pub printable-is : (r : Bool) (l : List ℕ) → (r ≡ true → Shown l) → (Shown l → r ≡ true) → r ≡ printable l
+printable-is true l f g = sym (printable-all l (f refl))
+printable-is false l f g = pick (printable l) (shown l)
+  where
+    pick : (t : Bool) → (t ≡ true → Shown l) → false ≡ t
+    pick false h = refl
+    pick true h = g (h refl)

@@ -1,16 +1,17 @@
 -- Laws of what a line of numbers asks, by how many they are.
 use mathlib.Core.{Bool.{Bool, true, false, cond, ◌&&◌}, List.{List, [], ◌∷◌}, Path.{◌≡◌, refl, sym, ap, ◌∙◌}}
-use Prim.Native.Nat.{ℕ, zero, suc, ◌+◌, ◌≤◌, ◌<◌}
+use Prim.Native.Nat.{ℕ, ◌+◌, ◌≤◌, ◌<◌}
 use native.Mathlib.{Omega.arith, Numerals.add-one}
-use lib.{Dec.{leb, ltb}, ListN.{length, take, drop, get_or, drop_of_length-le}, Seq.{length-take-le, drop-cons, take_at}}
+use lib.{Dec.{leb, ltb}, ListN.{length, take, drop, get_or, drop_of_length-le}, Seq.{drop-cons, take_at}}
 use borrow.Author.Tests.{ne_eqb, eq-eqb, le-leb, lt-leb, lt-ltb, le-ltb}
 use Rattle.buffers.specs.Parts.{pasted}
 use Rattle.text_numerals.specs.Decimal.{Numeral, NumberList, unread, values, before, at_most, front_number, more_digits, numbers_in}
 use Rattle.text_numerals.specs.{Decimal.then_values, Pairs.pairs_in, Fields.{numeral_of, values_of, number_count}}
-use Rattle.text_numerals.specs.declared.{Field.{Field, TheVariants.{Missing, Number}}, Count.Count}
-use Rattle.text_numerals.specs.declared.Count.TheVariants.{Unread, Many}
-use Rattle.spec.specs.Messages.{on, write, best_order}
-use Rattle.text_log.specs.LogLines.{LogEntry, another, comment, expects, calls, next_number, last, last_or, entry_asked}
+use Rattle.text_numerals.specs.declared.Number.{Number}
+use Rattle.std.specs.declared.option.Option.{Option, TheVariants.{None, Some}}
+use Rattle.spec.specs.Messages.{on, write, best_order, begin, commit, abort, places, set_window, undo_commit, seek, get_file_pointer, read}
+use Rattle.std.proofs.Common.{replicate}
+use Rattle.text_log.specs.LogLines.{LogEntry, another, version, trace_room, comment, expects, calls, next_number, last, last_or, entry_asked}
 use Rattle.text_log.specs.LogLines.{ordering, if_whole, on_number, octets, of_octets, numbers_only, expectation_in, pairs_behind}
 use Rattle.text_log.specs.LogLines.{text_behind, write_entry, lettered_entry, entry_in, call_in, most_written, most_numbers}
 use Rattle.text_log.specs.{LogLines.longest, Octets.octets_in, Reading.{log_entry_of, written_by, Says}}
@@ -19,49 +20,36 @@ use Rattle.text_log.specs.declared.parsing.{ParsedEntry.{ParsedEntry, TheVariant
 pub other-entry : (bytes : List ℕ) (meant : LogEntry) → meant ≡ another → Says Another bytes meant
 other-entry bytes meant e = unfold log_entry_of written_by in record { means = sym e; bytes = omega arith }
 
--- The numbers of a list of so many, and lists of another length.
-module _ (ns : List ℕ) where
-  pub front-one : (n : ℕ) → n ≡ 1 → n ≤ length ns → take n ns ≡ get_or ns 0 0 ∷ []
-  front-one n e h = rw e (go ns (omega arith))
-    where
-      go : (l : List ℕ) → 1 ≤ length l → take 1 l ≡ get_or l 0 0 ∷ []
-      go [] h = absurd (omega arith)
-      go (a ∷ l) h = refl
+-- The numbers of a list of so many.
+pub one-of : (l : List ℕ) → length l ≡ 1 → l ≡ get_or l 0 0 ∷ []
+one-of [] h = absurd (omega arith)
+one-of (a ∷ []) h = refl
+one-of (a ∷ b ∷ l) h = absurd (omega arith)
 
-  pub front-two : (n : ℕ) → n ≡ 2 → n ≤ length ns → take n ns ≡ get_or ns 0 0 ∷ get_or ns 1 0 ∷ []
-  front-two n e h = rw e (go ns (omega arith))
-    where
-      go : (l : List ℕ) → 2 ≤ length l → take 2 l ≡ get_or l 0 0 ∷ get_or l 1 0 ∷ []
-      go [] h = absurd (omega arith)
-      go (a ∷ []) h = absurd (omega arith)
-      go (a ∷ b ∷ l) h = refl
+pub two_of : (l : List ℕ) → length l ≡ 2 → l ≡ get_or l 0 0 ∷ get_or l 1 0 ∷ []
+two_of [] h = absurd (omega arith)
+two_of (a ∷ []) h = absurd (omega arith)
+two_of (a ∷ b ∷ []) h = refl
+two_of (a ∷ b ∷ c ∷ l) h = absurd (omega arith)
 
-  pub front-three : (n : ℕ) → n ≡ 3 → n ≤ length ns → take n ns ≡ get_or ns 0 0 ∷ get_or ns 1 0 ∷ get_or ns 2 0 ∷ []
-  front-three n e h = rw e (go ns (omega arith))
-    where
-      go : (l : List ℕ) → 3 ≤ length l → take 3 l ≡ get_or l 0 0 ∷ get_or l 1 0 ∷ get_or l 2 0 ∷ []
-      go [] h = absurd (omega arith)
-      go (a ∷ []) h = absurd (omega arith)
-      go (a ∷ b ∷ []) h = absurd (omega arith)
-      go (a ∷ b ∷ c ∷ l) h = refl
+pub three-of : (l : List ℕ) → length l ≡ 3 → l ≡ get_or l 0 0 ∷ get_or l 1 0 ∷ get_or l 2 0 ∷ []
+three-of [] h = absurd (omega arith)
+three-of (a ∷ l) h = let e = two_of l (omega arith) in ap (λ (m : List ℕ). a ∷ m) e
 
-  pub front-four : (n : ℕ) → n ≡ 4 → n ≤ length ns → take n ns ≡ get_or ns 0 0 ∷ get_or ns 1 0 ∷ get_or ns 2 0 ∷ get_or ns 3 0 ∷ []
-  front-four n e h = rw e (go ns (omega arith))
-    where
-      go : (l : List ℕ) → 4 ≤ length l → take 4 l ≡ get_or l 0 0 ∷ get_or l 1 0 ∷ get_or l 2 0 ∷ get_or l 3 0 ∷ []
-      go [] h = absurd (omega arith)
-      go (a ∷ []) h = absurd (omega arith)
-      go (a ∷ b ∷ []) h = absurd (omega arith)
-      go (a ∷ b ∷ c ∷ []) h = absurd (omega arith)
-      go (a ∷ b ∷ c ∷ d ∷ l) h = refl
+pub four-of : (l : List ℕ) → length l ≡ 4 → l ≡ get_or l 0 0 ∷ get_or l 1 0 ∷ get_or l 2 0 ∷ get_or l 3 0 ∷ []
+four-of [] h = absurd (omega arith)
+four-of (a ∷ l) h = let e = three-of l (omega arith) in ap (λ (m : List ℕ). a ∷ m) e
 
-get_d_take : (l : List ℕ) (i n : ℕ) → i < n → get_or (take n l) i 0 ≡ get_or l i 0
-get_d_take l i zero h = absurd (omega arith)
-get_d_take [] i (suc n) h = refl
-get_d_take (a ∷ l) zero (suc n) h = refl
-get_d_take (a ∷ l) (suc i) (suc n) h = get_d_take l i n (omega arith)
+pub none-of : (l : List ℕ) → length l < 1 → l ≡ []
+none-of [] h = refl
+none-of (a ∷ l) h = absurd (omega arith)
 
 -- Lists of another length.
+not_none : (e : LogEntry) (l : List ℕ) → (length l ≡ 0 → ⊥) → last e l ≡ another
+unfolding last
+not_none e [] g = absurd (g refl)
+not_none e (a ∷ l) g = refl
+
 not-one : (f : ℕ → LogEntry) (l : List ℕ) → (length l ≡ 1 → ⊥) → next_number (λ a. last (f a)) l ≡ another
 unfolding next_number last
 not-one f [] h = refl
@@ -98,28 +86,38 @@ not-three-four n f [] g h = refl
 not-three-four n f (a ∷ []) g h = refl
 not-three-four n f (a ∷ b ∷ l) g h = not-one-two n (f a b) l (λ e. g (omega arith)) (λ e. h (omega arith))
 
--- A line of n numbers whose letter asks for another count.
-module _ (n : ℕ) (ns : List ℕ) (h : n ≤ length ns) where
-  sized : length (take n ns) ≡ n
-  sized = length-take-le n ns h
+-- A letter that asks for another count of numbers.
+module _ (ns bytes : List ℕ) where
+  pub not-begin : (length ns ≡ 1 → ⊥) → Says Another bytes (entry_asked 66 ns)
+  not-begin g = unfold entry_asked in other-entry bytes _ (not-one (λ t. calls (begin t)) ns g)
 
-  pub other-one : (f : ℕ → LogEntry) → (n ≡ 1 → ⊥) → next_number (λ a. last (f a)) (take n ns) ≡ another
-  other-one f g = not-one f (take n ns) (λ e. g (sym sized ∙ e))
+  pub not-commit : (length ns ≡ 1 → ⊥) → (length ns ≡ 2 → ⊥) → Says Another bytes (entry_asked 67 ns)
+  not-commit g h = unfold entry_asked in other-entry bytes _ (not-one-two 0 (λ t minute. calls (commit t minute)) ns g h)
 
-  pub other-two : (f : ℕ → ℕ → LogEntry) → (n ≡ 2 → ⊥) → next_number (λ a. next_number (λ b. last (f a b))) (take n ns) ≡ another
-  other-two f g = not-two f (take n ns) (λ e. g (sym sized ∙ e))
+  pub not-abort : (length ns ≡ 1 → ⊥) → Says Another bytes (entry_asked 65 ns)
+  not-abort g = unfold entry_asked in other-entry bytes _ (not-one (λ t. calls (abort t)) ns g)
 
-  pub other-three : (f : ℕ → ℕ → ℕ → LogEntry) → (n ≡ 3 → ⊥)
-      → next_number (λ a. next_number (λ b. next_number (λ c. last (f a b c)))) (take n ns) ≡ another
-  other-three f g = not_three f (take n ns) (λ e. g (sym sized ∙ e))
+  pub not-pointer : (length ns ≡ 2 → ⊥) → Says Another bytes (entry_asked 80 ns)
+  not-pointer g = unfold entry_asked in other-entry bytes _ (not-two (λ t d. calls (on t (get_file_pointer d))) ns g)
 
-  pub other-one-two : (k : ℕ) (f : ℕ → ℕ → LogEntry) → (n ≡ 1 → ⊥) → (n ≡ 2 → ⊥) → next_number (λ a. last_or k (f a)) (take n ns)
-      ≡ another
-  other-one-two k f g i = not-one-two k f (take n ns) (λ e. g (sym sized ∙ e)) (λ e. i (sym sized ∙ e))
+  pub not-seek : (length ns ≡ 3 → ⊥) → Says Another bytes (entry_asked 83 ns)
+  not-seek g = unfold entry_asked in other-entry bytes _ (not_three (λ t d v. calls (on t (seek d v))) ns g)
 
-  pub other-three-four : (k : ℕ) (f : ℕ → ℕ → ℕ → ℕ → LogEntry) → (n ≡ 3 → ⊥) → (n ≡ 4 → ⊥)
-      → next_number (λ a. next_number (λ b. next_number (λ c. last_or k (f a b c)))) (take n ns) ≡ another
-  other-three-four k f g i = not-three-four k f (take n ns) (λ e. g (sym sized ∙ e)) (λ e. i (sym sized ∙ e))
+  pub not-read : (length ns ≡ 3 → ⊥) → (length ns ≡ 4 → ⊥) → Says Another bytes (entry_asked 82 ns)
+  not-read g h = unfold entry_asked in other-entry bytes _
+      (not-three-four trace_room (λ t d n room. calls (on t (read d n (replicate room 0)))) ns g h)
+
+  pub not-places : (length ns ≡ 3 → ⊥) → Says Another bytes (entry_asked 76 ns)
+  not-places g = unfold entry_asked in other-entry bytes _ (not_three (λ t f room. calls (places t f (replicate room 0))) ns g)
+
+  pub not-window : (length ns ≡ 3 → ⊥) → Says Another bytes (entry_asked 72 ns)
+  not-window g = unfold entry_asked in other-entry bytes _ (not_three (λ f start end. calls (set_window f start end)) ns g)
+
+  pub not-undo : (length ns ≡ 0 → ⊥) → Says Another bytes (entry_asked 85 ns)
+  not-undo g = unfold entry_asked in other-entry bytes _ (not_none (calls undo_commit) ns g)
+
+  pub not-version : (length ns ≡ 1 → ⊥) → Says Another bytes (entry_asked 86 ns)
+  not-version g = unfold entry_asked in other-entry bytes _ (not-one (λ v. version v) ns g)
 
 -- A letter of no line of numbers.
 pub asked-other : (k : ℕ) (l : List ℕ) → (k ≡ 66 → ⊥) → (k ≡ 67 → ⊥) → (k ≡ 65 → ⊥) → (k ≡ 80 → ⊥) → (k ≡ 83 → ⊥) → (k ≡ 82 → ⊥)
@@ -145,11 +143,11 @@ pub entry-as-meant : (r : ParsedEntry) (bytes : List ℕ) (meant said : LogEntry
     → Says r bytes meant
 entry-as-meant r bytes meant said e h = rw e h
 
-module _ (c : Count) (buffer : List ℕ) (v : NumberList) (f : List ℕ → LogEntry) (h : values_of c buffer ≡ v) where
-  pub counted-unread : c ≡ Unread → if_whole f v ≡ another
+module _ (c : Option ℕ) (buffer : List ℕ) (v : NumberList) (f : List ℕ → LogEntry) (h : values_of c buffer ≡ v) where
+  pub counted-unread : c ≡ None → if_whole f v ≡ another
   counted-unread e = unfold values_of if_whole in rw (← h, e)
 
-  pub counted-many : (n : ℕ) → c ≡ Many n → if_whole f v ≡ f (take n buffer)
+  pub counted-many : (n : ℕ) → c ≡ Some n → if_whole f v ≡ f (take n buffer)
   counted-many n e = unfold values_of if_whole in rw (← h, e)
 
 pub whole-none : (f : List ℕ → LogEntry) (v : NumberList) → v ≡ values [] → if_whole f v ≡ f []
@@ -158,43 +156,30 @@ whole-none f v e = unfold if_whole in rw e
 pub whole-as : (f : List ℕ → LogEntry) (v w : NumberList) → v ≡ w → if_whole f v ≡ if_whole f w
 whole-as f v w e = ap (if_whole f) e
 
-pub many-within : (c : Count) (n k : ℕ) → number_count c ≤ k → c ≡ Many n → n ≤ k
+pub many-within : (c : Option ℕ) (n k : ℕ) → number_count c ≤ k → c ≡ Some n → n ≤ k
 many-within c n k h e = unfold number_count in rw e at h
 
-module _ (line : List ℕ) (f : Field) (g : Numeral) (made : ℕ → List ℕ → LogEntry) (h : numeral_of line f ≡ g) where
-  pub on-missing : f ≡ Missing → on_number g made ≡ another
+module _ (line : List ℕ) (f : Option Number) (g : Numeral) (made : ℕ → List ℕ → LogEntry) (h : numeral_of line f ≡ g) where
+  pub on-missing : f ≡ None → on_number g made ≡ another
   on-missing e = unfold numeral_of on_number in rw (← h, e)
 
-  pub on-number : (v end : ℕ) → f ≡ Number v end → on_number g made ≡ made v (drop end line)
-  on-number v end e = unfold numeral_of on_number in rw (← h, e)
+  pub on-number : (n : Number) → f ≡ Some n → on_number g made ≡ made n.value (drop n.end line)
+  on-number n e = unfold numeral_of on_number in rw (← h, e)
 
 -- ---- lists
 
-pub not_none : (e : LogEntry) (n : ℕ) (ns : List ℕ) → n ≤ length ns → (n ≡ 0 → ⊥) → last e (take n ns) ≡ another
-unfolding last
-not_none e n ns h g = go (take n ns) (λ z. g (sym (length-take-le n ns h) ∙ z))
-  where
-    go : (l : List ℕ) → (length l ≡ 0 → ⊥) → last e l ≡ another
-    go [] g = absurd (g refl)
-    go (a ∷ l) g = refl
-
-pub short-order : (n : ℕ) (ns : List ℕ) → n ≤ length ns → n < 2 → ordering (take n ns) ≡ another
+pub short-order : (l : List ℕ) → length l < 2 → ordering l ≡ another
 unfolding ordering next_number
-short-order n ns h l = go (take n ns) (omega (arith, length-take-le n ns h))
-  where
-    go : (l : List ℕ) → length l < 2 → ordering l ≡ another
-    go [] h = refl
-    go (a ∷ []) h = refl
-    go (a ∷ b ∷ l) h = absurd (omega arith)
+short-order [] h = refl
+short-order (a ∷ []) h = refl
+short-order (a ∷ b ∷ l) h = absurd (omega arith)
 
-pub order-of : (ns : List ℕ) (n : ℕ) → n ≤ length ns → 2 ≤ n → ordering (take n ns) ≡ of_octets (drop 2 (take n ns))
-    (calls (best_order (drop 2 (take n ns)) (get_or ns 0 0) (get_or ns 1 0)))
+pub order-of : (l : List ℕ) → 2 ≤ length l → ordering l ≡ of_octets (drop 2 l)
+    (calls (best_order (drop 2 l) (get_or l 0 0) (get_or l 1 0)))
 unfolding ordering next_number
-order-of ns zero h g = absurd (omega arith)
-order-of ns (suc zero) h g = absurd (omega arith)
-order-of [] (suc (suc n)) h g = absurd (omega arith)
-order-of (a ∷ []) (suc (suc n)) h g = absurd (omega arith)
-order-of (a ∷ b ∷ ns) (suc (suc n)) h g = refl
+order-of [] h = absurd (omega arith)
+order-of (a ∷ []) h = absurd (omega arith)
+order-of (a ∷ b ∷ l) h = refl
 
 -- ---- octets
 
@@ -216,35 +201,32 @@ octets-read (n ∷ ns) = pick (ltb n 256) (octets-read ns)
 unlike : (ns : List ℕ) → unread ≡ values ns → ⊥
 unlike ns e = let z : ◌≡◌ {A = ℕ} 0 1 = cc in omega arith
 
-module _ (l : List ℕ) (c : Count) (buffer : List ℕ) (h : values_of c buffer ≡ octets_in l) where
-  pub no-octets : c ≡ Unread → (e : LogEntry) → of_octets l e ≡ another
+module _ (l : List ℕ) (c : Option ℕ) (buffer : List ℕ) (h : values_of c buffer ≡ octets_in l) where
+  pub no-octets : c ≡ None → (e : LogEntry) → of_octets l e ≡ another
   unfolding values_of
-  no-octets u e = pick (octets l) (ap (λ (x : Count). values_of x buffer) (sym u) ∙ h ∙ octets-read l)
+  no-octets u e = pick (octets l) (ap (λ (x : Option ℕ). values_of x buffer) (sym u) ∙ h ∙ octets-read l)
     where
       pick : (b : Bool) → unread ≡ cond b (values l) unread → cond b e another ≡ another
       pick true q = absurd (unlike l q)
       pick false q = refl
 
-  pub all-octets : (k : ℕ) → c ≡ Many k → (f : List ℕ → LogEntry) → f (take k buffer) ≡ of_octets l (f l)
+  pub all-octets : (k : ℕ) → c ≡ Some k → (f : List ℕ → LogEntry) → f (take k buffer) ≡ of_octets l (f l)
   unfolding values_of
-  all-octets k m f = pick (octets l) (ap (λ (x : Count). values_of x buffer) (sym m) ∙ h ∙ octets-read l)
+  all-octets k m f = pick (octets l) (ap (λ (x : Option ℕ). values_of x buffer) (sym m) ∙ h ∙ octets-read l)
     where
       pick : (b : Bool) → values (take k buffer) ≡ cond b (values l) unread → f (take k buffer) ≡ cond b (f l) another
       pick true q = let e : take k buffer ≡ l = cc in ap f e
       pick false q = absurd (unlike (take k buffer) (sym q))
 
-pub octets-end : (l : List ℕ) (i n : ℕ) → n ≤ i → n ≤ length l → octets_in (drop i (take n l)) ≡ values []
-octets-end l i n g h = unfold octets_in in let k = length-take-le n l h in let small : length (take n l) ≤ i = omega arith in
-    ap octets_in (drop_of_length-le (take n l) small)
+pub octets-end : (l : List ℕ) (i : ℕ) → length l ≤ i → octets_in (drop i l) ≡ values []
+octets-end l i h = unfold octets_in in ap octets_in (drop_of_length-le l h)
 
-pub octets-over : (l : List ℕ) (i n : ℕ) → i < n → n ≤ length l → 255 < get_or l i 0 → octets_in (drop i (take n l)) ≡ unread
-octets-over l i n g h v = unfold octets_in in let k = length-take-le n l h in
-    rw (drop-cons (take n l) i 0 (omega arith), get_d_take l i n g, le-ltb (get_or l i 0) 256 (omega arith))
+pub octets-over : (l : List ℕ) (i : ℕ) → i < length l → 255 < get_or l i 0 → octets_in (drop i l) ≡ unread
+octets-over l i h v = unfold octets_in in rw (drop-cons l i 0 h, le-ltb (get_or l i 0) 256 (omega arith))
 
-pub octets-more : (l : List ℕ) (i n : ℕ) → i < n → n ≤ length l → get_or l i 0 ≤ 255
-    → octets_in (drop i (take n l)) ≡ before (get_or l i 0) (octets_in (drop (i + 1) (take n l)))
-octets-more l i n g h v = unfold octets_in in let k = length-take-le n l h in
-    rw (drop-cons (take n l) i 0 (omega arith), get_d_take l i n g, lt-ltb (get_or l i 0) 256 (omega arith), add-one i)
+pub octets-more : (l : List ℕ) (i : ℕ) → i < length l → get_or l i 0 ≤ 255
+    → octets_in (drop i l) ≡ before (get_or l i 0) (octets_in (drop (i + 1) l))
+octets-more l i h v = unfold octets_in in rw (drop-cons l i 0 h, lt-ltb (get_or l i 0) 256 (omega arith), add-one i)
 
 -- ---- bytes behind two numbers
 

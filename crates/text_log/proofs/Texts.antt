@@ -5,22 +5,13 @@ use native.Mathlib.Omega.{arith}
 use lib.{Dec.leb, ListN.{length, take, replicate, length-append, length-take}, Seq.append_snoc}
 use borrow.Author.Tests.{leb-true}
 use Rattle.text_numerals.specs.{Decimal.{number_text, spaced_texts, joined_texts}, Pairs.hex_pairs}
-use Rattle.text_numerals.proofs.PutLaws.{append-none, texts-snoc, length-number, length-texts, length_pairs}
+use Rattle.text_numerals.proofs.PutLaws.{append-none, length-number, length-texts, length_pairs}
 use Rattle.requests.specs.declared.Request.{Request}
 use Rattle.requests.specs.declared.Request.TheVariants.{Begin, Seek, Write, GetFilePointer, Read, Places, Commit, Abort}
 use Rattle.requests.specs.{declared.Request.TheVariants.{SetWindow, UndoCommit}, Requests.call_of}
 use Rattle.spec.specs.Messages.{best_order}
 use Rattle.text_log.specs.LogLines.{letter_and_numbers, printable, text_line, pairs_line, write_line, op_line, line_of}
 use Rattle.text_log.specs.{LogLines.most_written, Recorded.request_line}
-
--- One number; one number more.
-pub joined-one : (n : ℕ) → joined_texts (n ∷ []) ≡ number_text n
-joined-one n = unfold joined_texts spaced_texts in append-none (number_text n)
-
-pub joined-more : (n : ℕ) (ns : List ℕ) (m : ℕ) → joined_texts (n ∷ (ns ++ (m ∷ []))) ≡ joined_texts (n ∷ ns) ++ (32 ∷ number_text m)
-unfolding joined_texts
-joined-more n ns m = ap (λ (l : List ℕ). number_text n ++ l) (texts-snoc ns m)
-    ∙ sym (append_assoc (number_text n) (spaced_texts ns) (32 ∷ number_text m))
 
 -- A text behind one space.
 pub behind-space : (xs h : List ℕ) → xs ++ (32 ∷ h) ≡ (xs ++ (32 ∷ [])) ++ h

@@ -32,57 +32,27 @@ const TEXT_LINE: usize = 128;
 // The most bytes of a line, with its end.
 pub const LOG_LINE_BYTES: usize = 8238;
 
-// A letter, and a number directly behind it.
-fn put_one(out: &mut [u8], letter: u8, a: usize) -> usize
-    requires { log_line_bytes ≤ length out.old }
-    ensures { Put out.old 0 (letter_and_numbers letter (a ∷ [])) out.new result }
+// A letter with its numbers: the first directly behind it, each other behind a space.
+fn put_numbers(out: &mut [u8], letter: u8, numbers: &[usize]) -> usize
+    requires { (log_line_bytes ≤ length out.old) × (length numbers.now ≤ 4) }
+    ensures { Put out.old 0 (letter_and_numbers letter numbers.now) out.new result }
 {
     let next = put_byte(out, 0, letter);
-    put_number(out, next, a)
-}
-
-fn put_two(out: &mut [u8], letter: u8, a: usize, b: usize) -> usize
-    requires { log_line_bytes ≤ length out.old }
-    ensures { Put out.old 0 (letter_and_numbers letter (a ∷ b ∷ [])) out.new result }
-{
-    let next = put_one(out, letter, a);
-    put_spaced(out, next, b)
-}
-
-fn put_three(out: &mut [u8], letter: u8, a: usize, b: usize, c: usize) -> usize
-    requires { log_line_bytes ≤ length out.old }
-    ensures { Put out.old 0 (letter_and_numbers letter (a ∷ b ∷ c ∷ []))
-        out.new result }
-{
-    let next = put_two(out, letter, a, b);
-    put_spaced(out, next, c)
-}
-
-fn put_four(out: &mut [u8], letter: u8, a: usize, b: usize, c: usize, d: usize) -> usize
-    requires { log_line_bytes ≤ length out.old }
-    ensures { Put out.old 0 (letter_and_numbers letter (a ∷ b ∷ c ∷ d ∷ []))
-        out.new result }
-{
-    let next = put_three(out, letter, a, b, c);
-    put_spaced(out, next, d)
+    let [first, others @ ..] = numbers else {
+        return next;
+    };
+    let mut next = put_number(out, next, *first);
+    for n in others {
+        next = put_spaced(out, next, *n);
+    }
+    next
 }
 
 // Whether a terminal shows every byte.
 fn is_printable(bytes: &[u8]) -> bool
     ensures { result ≡ printable bytes.now }
 {
-    let mut i = 0;
-    while i < bytes.len() {
-        let b = bytes[i];
-        if b < b' ' {
-            return false;
-        }
-        if b'~' < b {
-            return false;
-        }
-        i += 1;
-    }
-    true
+    bytes.iter().all(|b| matches!(*b, b' '..=b'~'))
 }
 
 // Whether the bytes of a Write stand as they are in a line that they end at that place.
@@ -100,7 +70,7 @@ fn put_write(out: &mut [u8], t: usize, d: usize, bytes: &[u8]) -> usize
     requires { (log_line_bytes ≤ length out.old) × (length bytes.now ≤ most_written) }
     ensures { Put out.old 0 (write_line t d bytes.now) out.new result }
 {
-    let end = put_two(out, b'W', t, d);
+    let end = put_numbers(out, b'W', &[t, d]);
     let next = put_byte(out, end, b' ');
     let after = next + bytes.len();
     if is_text(bytes, after) {
@@ -117,7 +87,7 @@ fn put_front(out: &mut [u8], t: usize, d: usize, bytes: &[u8]) -> usize
     ensures { Put out.old 0 (write_line t d (take most_written bytes.now))
         out.new result }
 {
-    let end = limits::smaller(MOST_WRITTEN, bytes.len());
+    let end = bytes.len().min(MOST_WRITTEN);
     put_write(out, t, d, &bytes[..end])
 }
 
@@ -129,15 +99,15 @@ fn put_request(out: &mut [u8], request: Request, bytes: &[u8], room: usize) -> u
         out.new result }
 {
     match request {
-        Request::Begin(t) => put_one(out, b'B', t),
-        Request::Seek(t, d, v) => put_three(out, b'S', t, d, v),
+        Request::Begin(t) => put_numbers(out, b'B', &[t]),
+        Request::Seek(t, d, v) => put_numbers(out, b'S', &[t, d, v]),
         Request::Write(t, d) => put_front(out, t, d, bytes),
-        Request::GetFilePointer(t, d) => put_two(out, b'P', t, d),
-        Request::Read(t, d, n) => put_four(out, b'R', t, d, n, room),
-        Request::Places(t, f) => put_three(out, b'L', t, f, room),
-        Request::Commit(t, minute) => put_two(out, b'C', t, minute),
-        Request::Abort(t) => put_one(out, b'A', t),
-        Request::SetWindow(f, start, end) => put_three(out, b'H', f, start, end),
+        Request::GetFilePointer(t, d) => put_numbers(out, b'P', &[t, d]),
+        Request::Read(t, d, n) => put_numbers(out, b'R', &[t, d, n, room]),
+        Request::Places(t, f) => put_numbers(out, b'L', &[t, f, room]),
+        Request::Commit(t, minute) => put_numbers(out, b'C', &[t, minute]),
+        Request::Abort(t) => put_numbers(out, b'A', &[t]),
+        Request::SetWindow(f, start, end) => put_numbers(out, b'H', &[f, start, end]),
         Request::UndoCommit => put_byte(out, 0, b'U'),
     }
 }
@@ -160,7 +130,7 @@ pub fn put_fresh(out: &mut [u8], files: &[u8]) -> usize
         out.new result }
 {
     let next = put_byte(out, 0, b'F');
-    let end = limits::smaller(MOST_FILES, files.len());
+    let end = files.len().min(MOST_FILES);
     let next = put_joined(out, next, &files[..end]);
     put_byte(out, next, b'\n')
 }
@@ -173,8 +143,8 @@ pub fn put_order(out: &mut [u8], list: &[u8], minute: usize, budget: usize) -> u
         (line_of (Call.best_order (take most_ordered list.now) minute budget) ++ (10 ∷ []))
         out.new result }
 {
-    let next = put_two(out, b'O', minute, budget);
-    let end = limits::smaller(MOST_ORDERED, list.len());
+    let next = put_numbers(out, b'O', &[minute, budget]);
+    let end = list.len().min(MOST_ORDERED);
     let next = put_list(out, next, &list[..end]);
     put_byte(out, next, b'\n')
 }

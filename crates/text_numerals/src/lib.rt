@@ -2,7 +2,7 @@
 // function that puts answers the place after what it put.
 #![tactic(auto)]
 
-ghost use Rattle.std.specs.Prelude.{◌≡◌, ◌∷◌, [], ◌+◌, ◌*◌, ◌<◌, ◌≤◌, true, length, take, drop};
+ghost use Rattle.std.specs.Prelude.{◌≡◌, ◌∷◌, [], ◌+◌, ◌*◌, ◌<◌, ◌≤◌, MatchOption, false, true, length, take, drop};
 ghost use Rattle.text_numerals.specs.Decimal.{glyph as glyph_of, number_text, spaced_texts, joined_texts};
 ghost use Rattle.text_numerals.specs.Decimal.{is_digit, worth, digits, fitting, front_number};
 ghost use Rattle.text_numerals.specs.Decimal.{spaced_number};
@@ -26,9 +26,9 @@ pub fn glyph(d: u8) -> u8
     ensures { result ≡ glyph_of d }
 {
     if d < 10 {
-        return 48 + d;
+        return b'0' + d;
     }
-    87 + d
+    b'a' - 10 + d
 }
 
 // A number in decimal, its front digits first.
@@ -58,20 +58,11 @@ pub fn put_pairs(out: &mut [u8], at: usize, bytes: &[u8]) -> usize
     ensures { Put out.old at (hex_pairs bytes.now) out.new result }
 {
     let mut next = at;
-    let mut i = 0;
-    while i < bytes.len() {
-        let b = bytes[i];
-        next = put_byte(out, next, glyph(b / 16));
-        next = put_byte(out, next, glyph(b % 16));
-        i += 1;
+    for b in bytes {
+        next = put_byte(out, next, glyph(*b / 16));
+        next = put_byte(out, next, glyph(*b % 16));
     }
     next
-}
-
-fn wide(x: u8) -> usize
-    ensures { result ≡ x }
-{
-    x as usize
 }
 
 // Octets in decimal, each behind one space.
@@ -80,10 +71,8 @@ pub fn put_list(out: &mut [u8], at: usize, list: &[u8]) -> usize
     ensures { Put out.old at (spaced_texts list.now) out.new result }
 {
     let mut next = at;
-    let mut i = 0;
-    while i < list.len() {
-        next = put_spaced(out, next, wide(list[i]));
-        i += 1;
+    for n in list {
+        next = put_spaced(out, next, usize::from(*n));
     }
     next
 }
@@ -93,189 +82,133 @@ pub fn put_joined(out: &mut [u8], at: usize, list: &[u8]) -> usize
     requires { at + 21 * length list.now ≤ length out.old }
     ensures { Put out.old at (joined_texts list.now) out.new result }
 {
-    if list.len() == 0 {
+    let [first, others @ ..] = list else {
         return at;
-    }
-    let next = put_number(out, at, wide(list[0]));
-    put_list(out, next, &list[1..])
+    };
+    let next = put_number(out, at, usize::from(*first));
+    put_list(out, next, others)
 }
 
-// A number, and where the bytes after it start; or no number that fits.
+// A number that was read, and where the bytes after it start.
 #[derive(Clone, Copy)]
-pub enum Field {
-    Missing,
-    Number(usize, usize),
+pub struct Number {
+    pub value: usize,
+    pub end: usize,
 }
 
-// The largest number of 64 bits.
-const TOP: usize = 18446744073709551615;
-
-pub fn is_digit(b: u8) -> bool
-    ensures { result ≡ is_digit b }
+// What a digit is worth.
+pub fn digit(b: u8) -> Option<usize>
+    ensures { MatchOption result (is_digit b ≡ false)
+        (λ d. (is_digit b ≡ true) × ((d ≡ worth b) × (d ≤ 9))) }
 {
-    if b < b'0' {
-        return false;
+    match b {
+        b'0'..=b'9' => Some(usize::from(b - b'0')),
+        _ => None,
     }
-    b <= b'9'
 }
 
-pub fn worth(b: u8) -> usize
-    requires { is_digit b ≡ true }
-    ensures { (result ≡ worth b) × (result ≤ 9) }
-{
-    (b - b'0') as usize
-}
-
-// The number that up to `more` digits from a place on make of its first one.
-fn digits_from(line: &[u8], first: usize, from: usize, more: usize) -> Field
+// The number that up to `more` digits from a place on make of its first one; none if it does not fit.
+fn digits_from(line: &[u8], first: usize, from: usize, more: usize) -> Option<Number>
     requires { first ≤ 9 }
     ensures { numeral_of line.now result
         ≡ fitting (digits more first (drop from line.now)) }
 {
-    let mut number = first;
-    let mut at = from;
-    let mut left = more;
-    while 0 < left {
-        if line.len() <= at {
-            return Field::Number(number, at);
-        }
-        let b = line[at];
-        if !is_digit(b) {
-            return Field::Number(number, at);
-        }
-        let w = worth(b);
-        if (TOP - w) / 10 < number {
-            return Field::Missing;
-        }
-        number = number * 10 + w;
-        at += 1;
-        left -= 1;
+    let mut value = first;
+    let end = line.len().min(from.saturating_add(more));
+    for at in from..end {
+        let Some(d) = digit(line[at]) else {
+            return Some(Number { value, end: at });
+        };
+        value = value.checked_mul(10)?.checked_add(d)?;
     }
-    Field::Number(number, at)
+    Some(Number { value, end })
 }
 
 // A number of one digit and up to `more` more.
-pub fn number_at(line: &[u8], at: usize, more: usize) -> Field
+pub fn number_at(line: &[u8], at: usize, more: usize) -> Option<Number>
     ensures { numeral_of line.now result ≡ front_number more (drop at line.now) }
 {
-    if line.len() <= at {
-        return Field::Missing;
-    }
-    let b = line[at];
-    if !is_digit(b) {
-        return Field::Missing;
-    }
-    digits_from(line, worth(b), at + 1, more)
+    let first = digit(*line.get(at)?)?;
+    digits_from(line, first, at + 1, more)
 }
 
 // One space, and such a number.
-pub fn spaced_at(line: &[u8], at: usize, more: usize) -> Field
+pub fn spaced_at(line: &[u8], at: usize, more: usize) -> Option<Number>
     ensures { numeral_of line.now result ≡ spaced_number more (drop at line.now) }
 {
-    if line.len() <= at {
-        return Field::Missing;
-    }
-    if line[at] != b' ' {
-        return Field::Missing;
+    if *line.get(at)? != b' ' {
+        return None;
     }
     number_at(line, at + 1, more)
-}
-
-// How many values were read into a lent buffer, up to the line's end; or the line has another form.
-#[derive(Clone, Copy)]
-pub enum Count {
-    Unread,
-    Many(usize),
 }
 
 // The most digits of a number of 64 bits after its first.
 const FURTHER: usize = 19;
 
 // At most `most` numbers, each behind one space, up to the line's end. They are put into the buffer from
-// `first` on.
-fn numbers_from(line: &[u8], from: usize, buffer: &mut [usize], first: usize, most: usize) -> Count
+// `first` on. Answers the place after the last of them.
+fn numbers_from(
+    line: &[u8],
+    from: usize,
+    buffer: &mut [usize],
+    first: usize,
+    most: usize,
+) -> Option<usize>
     requires { first + most ≤ length buffer.old }
     ensures { Collects buffer.old result buffer.new
         (prepended (take first buffer.old) (numbers_in most (drop from line.now))) }
 {
     let mut at = from;
     let mut n = first;
-    let mut left = most;
+    // A while: where a number ends says where the next one starts.
     while at < line.len() {
-        if left == 0 {
-            return Count::Unread;
+        if n == first + most {
+            return None;
         }
-        let Field::Number(v, end) = spaced_at(line, at, FURTHER) else {
-            return Count::Unread;
-        };
-        buffer[n] = v;
+        let number = spaced_at(line, at, FURTHER)?;
+        buffer[n] = number.value;
         n += 1;
-        left -= 1;
-        at = end;
+        at = number.end;
     }
-    Count::Many(n)
+    Some(n)
 }
 
-// A number at a place, and up to 17 more, each behind one space.
-pub fn joined_numbers(line: &[u8], from: usize, buffer: &mut [usize]) -> Count
+// A number at a place, and up to 17 more, each behind one space: how many they are, at the buffer's front.
+pub fn joined_numbers(line: &[u8], from: usize, buffer: &mut [usize]) -> Option<usize>
     requires { 18 ≤ length buffer.old }
     ensures { Collects buffer.old result buffer.new
         (then_values (front_number 19 (drop from line.now)) (numbers_in 17)) }
 {
-    let Field::Number(v, end) = number_at(line, from, FURTHER) else {
-        return Count::Unread;
-    };
-    buffer[0] = v;
-    numbers_from(line, end, buffer, 1, 17)
+    let number = number_at(line, from, FURTHER)?;
+    buffer[0] = number.value;
+    numbers_from(line, number.end, buffer, 1, 17)
 }
 
-fn is_hex(b: u8) -> bool
-    ensures { result ≡ is_hex b }
+// What a hexadecimal digit is worth.
+fn hex_digit(b: u8) -> Option<u8>
+    ensures { MatchOption result (is_hex b ≡ false)
+        (λ d. (is_hex b ≡ true) × ((d ≡ hex_worth b) × (d ≤ 15))) }
 {
-    if is_digit(b) {
-        return true;
+    match b {
+        b'0'..=b'9' => Some(b - b'0'),
+        b'a'..=b'f' => Some(b - b'a' + 10),
+        _ => None,
     }
-    if b < b'a' {
-        return false;
-    }
-    b <= b'f'
 }
 
-fn hex_worth(b: u8) -> u8
-    requires { is_hex b ≡ true }
-    ensures { (result ≡ hex_worth b) × (result ≤ 15) }
-{
-    if is_digit(b) {
-        return b - 48;
-    }
-    b - 87
-}
-
-// Bytes as pairs of hexadecimal digits from a place on, up to the line's end, as many as the buffer holds.
-pub fn pairs_at(line: &[u8], from: usize, buffer: &mut [u8]) -> Count
+// Bytes as pairs of hexadecimal digits from a place on, up to the line's end: how many they are, at the
+// buffer's front. None if it has no room for all of them.
+pub fn pairs_at(line: &[u8], from: usize, buffer: &mut [u8]) -> Option<usize>
     ensures { Collects buffer.old result buffer.new
         (at_most (length buffer.old) (pairs_in (drop from line.now))) }
 {
-    let mut at = from;
-    let mut n = 0;
-    while at < line.len() {
-        if line.len() - at < 2 {
-            return Count::Unread;
-        }
-        let a = line[at];
-        if !is_hex(a) {
-            return Count::Unread;
-        }
-        let b = line[at + 1];
-        if !is_hex(b) {
-            return Count::Unread;
-        }
-        if buffer.len() <= n {
-            return Count::Unread;
-        }
-        buffer[n] = hex_worth(a) * 16 + hex_worth(b);
-        n += 1;
-        at += 2;
+    let pairs = &line[from.min(line.len())..];
+    let n = pairs.len() / 2;
+    if pairs.len() % 2 != 0 || buffer.len() < n {
+        return None;
     }
-    Count::Many(n)
+    for i in 0..n {
+        buffer[i] = hex_digit(pairs[2 * i])? * 16 + hex_digit(pairs[2 * i + 1])?;
+    }
+    Some(n)
 }

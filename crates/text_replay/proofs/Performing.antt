@@ -1,14 +1,16 @@
 -- The reader's buffer of the program serves for every call. Assumes nothing.
+use Rattle.std.specs.declared.result.Result.TheVariants.{Ok, Err}
 use mathlib.Core.{Bool.{Bool, true, false, cond}, List.{List, [], ◌++◌}, Path.{◌≡◌, refl, sym, ap, ap₂, ◌∙◌, subst}}
+use mathlib.Core.Logic.{◌⊎◌, inl, inr}
 use lib.{Dec.leb, ListN.{length, take, drop, replicate, length-replicate}, Seq.{take-append_seam, take-append-le}}
 use borrow.Author.Tests.{leb-true, leb-false, le-leb, lt-leb}
 use native.Mathlib.Omega.{arith}
-use Prim.Native.Nat.{ℕ, zero, suc, ◌+◌, ◌*◌, ◌≤◌, ◌<◌, min}
+use Prim.Native.Nat.{ℕ, zero, suc, ◌+◌, ◌*◌, ◌≤◌, min}
 use Rattle.limits.specs.Limits.{file_bytes}
-use Rattle.state.specs.{Outcomes.{Said, refused, said}, declared.outcomes.Outcome.Outcome}
-use Rattle.state.specs.declared.outcomes.Outcome.TheVariants.{Done, Offset, Given, Granted, Pairs, Ordered, Refused}
+use Rattle.state.specs.{Outcomes.{Said, refused, said}, Outcomes.Outcome}
+use Rattle.state.specs.declared.outcomes.Answer.TheVariants.{Done, Offset, Given, Granted, Pairs, Ordered}
 use Rattle.state.proofs.LayoutLaws.{length-journal}
-use Rattle.buffers.specs.Parts.{cut, pasted}
+use Rattle.buffers.specs.Parts.{pasted}
 use Rattle.text_numerals.proofs.PutLaws.{take_within}
 use Rattle.call_order.specs.Answer.{order_part}
 use Rattle.text_log.specs.{Reading.log_entry_of, declared.parsing.ParsedEntry.ParsedEntry}
@@ -162,24 +164,24 @@ size-within UndoCommit size n e h = omega (arith, e)
 order-part : (o : Outcome) (n : ℕ) (order rest : List ℕ) → length order ≡ 8
     → take (order_size o n) (order ++ rest) ≡ order_part o n order
 unfolding order_size order_part
-order-part Done n order rest l = refl
-order-part (Offset k) n order rest l = refl
-order-part (Given k) n order rest l = refl
-order-part (Granted k) n order rest l = refl
-order-part (Pairs k) n order rest l = refl
-order-part (Ordered grants gap tried) n order rest l = take-append-le (min n 8) order rest (omega arith)
+order-part (Ok Done) n order rest l = refl
+order-part (Ok (Offset k)) n order rest l = refl
+order-part (Ok (Given k)) n order rest l = refl
+order-part (Ok (Granted k)) n order rest l = refl
+order-part (Ok (Pairs k)) n order rest l = refl
+order-part (Ok (Ordered grants gap tried)) n order rest l = take-append-le (min n 8) order rest (omega arith)
     ∙ ap (λ (k : ℕ). take (min n k) order) (sym l) ∙ take_within n order
-order-part (Refused r) n order rest l = refl
+order-part (Err r) n order rest l = refl
 
 order-within : (o : Outcome) (n : ℕ) → order_size o n ≤ 8
 unfolding order_size
-order-within Done n = omega arith
-order-within (Offset k) n = omega arith
-order-within (Given k) n = omega arith
-order-within (Granted k) n = omega arith
-order-within (Pairs k) n = omega arith
-order-within (Ordered grants gap tried) n = omega arith
-order-within (Refused r) n = omega arith
+order-within (Ok Done) n = omega arith
+order-within (Ok (Offset k)) n = omega arith
+order-within (Ok (Given k)) n = omega arith
+order-within (Ok (Granted k)) n = omega arith
+order-within (Ok (Pairs k)) n = omega arith
+order-within (Ok (Ordered grants gap tried)) n = omega arith
+order-within (Err r) n = omega arith
 
 pub order-replies : (w : Turn) (o : Outcome) (m : Machine) (n size : ℕ) (order reader reader' : List ℕ) → length order ≡ 8
     → reader' ≡ pasted reader 0 order → size ≡ order_size o n → Meets w o m (order_part o n order)
@@ -192,53 +194,40 @@ order-replies w o m n size order reader reader' l is by h = let part : take size
 -- ---- what a line says
 
 -- no call
-module _ (line : ParsedEntry) (bytes reader : List ℕ) (m : Machine) (o : Outcome) where
-  module _ (size : ℕ) (none : size ≡ 0) (says17 : said o ≡ refused 17) where
-    none-replies : Replies (record { reply = says (refused 17); after = m }) o m (take size reader)
-    none-replies = rw none (record { answer = says17; text = ap (λ (a : Said). answer_text a []) says17; machine = refl })
+pub none-replies : (o : Outcome) (m : Machine) (reader : List ℕ) → said o ≡ refused 17
+    → Replies (record { reply = says (refused 17); after = m }) o m (take 0 reader)
+none-replies o m reader says17 =
+    record { answer = says17; text = ap (λ (a : Said). answer_text a []) says17; machine = refl }
 
-    pub another-replies : line ≡ Another → (size ≤ 4097) × Replies (turn_of (log_entry_of line bytes) m) o m (take size reader)
-    another-replies e = unfold turn_of log_entry_of in (omega (arith, none), rw e none-replies)
+pub none-entry : (l : ParsedEntry) (bytes : List ℕ) (m : Machine)
+    → (l ≡ Another) ⊎ ((l ≡ Comment) ⊎ ((l ≡ Expects) ⊎ ((v : ℕ) × (l ≡ Version v))))
+    → turn_of (log_entry_of l bytes) m ≡ record { reply = says (refused 17); after = m }
+unfolding turn_of log_entry_of
+none-entry l bytes m (inl e) = rw e refl
+none-entry l bytes m (inr (inl e)) = rw e refl
+none-entry l bytes m (inr (inr (inl e))) = rw e refl
+none-entry l bytes m (inr (inr (inr (v, e)))) = rw e refl
 
-    pub comment-replies : line ≡ Comment → (size ≤ 4097) × Replies (turn_of (log_entry_of line bytes) m) o m (take size reader)
-    comment-replies e = unfold turn_of log_entry_of in (omega (arith, none), rw e none-replies)
-
-    pub expects-replies : line ≡ Expects → (size ≤ 4097) × Replies (turn_of (log_entry_of line bytes) m) o m (take size reader)
-    expects-replies e = unfold turn_of log_entry_of in (omega (arith, none), rw e none-replies)
-
-    pub version-replies : (v : ℕ) → line ≡ Version v
-        → (size ≤ 4097) × Replies (turn_of (log_entry_of line bytes) m) o m (take size reader)
-    version-replies v e = unfold turn_of log_entry_of in (omega (arith, none), rw e none-replies)
+-- the bytes that it names
+pub front-is : (bytes : List ℕ) (n k : ℕ) → k ≡ min n (length bytes) → take k bytes ≡ take n bytes
+front-is bytes n k e = ap (λ (i : ℕ). take i bytes) e ∙ take_within n bytes
 
 -- a call
 module _ (line : ParsedEntry) (bytes reader : List ℕ) (m m' : Machine) (o : Outcome) where
-  module _ (n k : ℕ) (x : List ℕ) (long : length bytes ≡ 4097) (is : k ≡ min n 4097) (cutting : x ≡ cut bytes 0 k) where
-    front-is : x ≡ take n bytes
-    front-is = unfold cut in let e : k ≡ min n (length bytes) = omega (arith, is, long) in
-        cutting ∙ ap (λ (i : ℕ). take i bytes) e ∙ take_within n bytes
-
+  module _ (n : ℕ) (x : List ℕ) (front : x ≡ take n bytes) where
     pub fresh-replies : line ≡ Fresh n → Meets (fresh_turn x m) o m' []
         → (0 ≤ 4097) × Replies (turn_of (log_entry_of line bytes) m) o m' (take 0 reader)
     fresh-replies e h = unfold turn_of log_entry_of in (
       omega arith,
-      rw (e, ← front-is) (meets-replies (fresh_turn x m) (fresh_turn x m) o m' [] (same_turn (fresh_turn x m)) h),
+      rw (e, ← front) (meets-replies (fresh_turn x m) (fresh_turn x m) o m' [] (same_turn (fresh_turn x m)) h),
     )
 
     pub asks-replies : (q : Request) (room size : ℕ) → line ≡ Asks q n room
         → (size ≤ 4097) × Replies (call (call_of q x (replicate room 0)) m) o m' (take size reader)
         → (size ≤ 4097) × Replies (turn_of (log_entry_of line bytes) m) o m' (take size reader)
-    asks-replies q room size e h = unfold turn_of log_entry_of in rw (e, ← front-is) h
+    asks-replies q room size e h = unfold turn_of log_entry_of in rw (e, ← front) h
 
     pub order-line-replies : (minute budget size : ℕ) → line ≡ Order minute budget n
         → (size ≤ 4097) × Replies (call (best_order x minute budget) m) o m' (take size reader)
         → (size ≤ 4097) × Replies (turn_of (log_entry_of line bytes) m) o m' (take size reader)
-    order-line-replies minute budget size e h = unfold turn_of log_entry_of in rw (e, ← front-is) h
-
--- ---- a Read that is clipped
-
-pub clipped-read : (q : Request) (t d n room : ℕ) → q ≡ Read t d n → n ≤ room → (k : ℕ) → k ≡ min n 4097
-    → Read t d k ≡ clipped_to room q
-clipped-read q t d n room e h k is = unfold clipped_to in rw (e, le-leb n room h, is) refl
-
-pub preserved-read : (q : Request) (t d n room : ℕ) → q ≡ Read t d n → room < n → Read t d n ≡ clipped_to room q
-preserved-read q t d n room e h = unfold clipped_to in rw (e, lt-leb n room h) refl
+    order-line-replies minute budget size e h = unfold turn_of log_entry_of in rw (e, ← front) h

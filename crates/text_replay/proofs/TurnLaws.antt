@@ -1,13 +1,15 @@
 -- What the program does with a line is what the definition of a replay says. Assumes nothing.
 use mathlib.Core.{Bool.{Bool, true, false, cond, not}, List.{List, [], ◌∷◌, ◌++◌, append-nil}}
 use mathlib.Core.Path.{◌≡◌, refl, sym, ap, ap₂, ◌∙◌, subst}
+use mathlib.Core.Logic.{◌⊎◌, inl, inr}
 use lib.{Dec.leb, ListN.{length, take, drop, length-drop, drop_of_length-le}, Seq.take_all}
 use borrow.Author.Tests.{eq-eqb, ne_eqb, leb-true, leb-false}
 use native.Mathlib.Omega.{arith}
 use Prim.Native.Nat.{ℕ, ◌+◌, ◌-◌, ◌≤◌, min}
+use Rattle.std.specs.Prelude.{is_some}
 use Rattle.buffers.{specs.Parts.cut, proofs.PartLaws.{cut-pasted, cut-pasted-before}}
 use Rattle.text_numerals.{specs.Put.Put, proofs.PutLaws.{then, put-preserved, put-text}}
-use Rattle.state.specs.{Outcomes.{refused, said}, declared.outcomes.Outcome.Outcome}
+use Rattle.state.specs.{Outcomes.{refused, said}, Outcomes.Outcome}
 use Rattle.requests.specs.declared.Request.{Request}
 use Rattle.spec.specs.{Machine.Machine, Calls.Turn, Messages.says}
 use Rattle.text_log.specs.{Answers.{answer_text, reply_text}, LogLines.{LogEntry, another, call_in}, Reading.log_entry_of}
@@ -48,28 +50,25 @@ pub answered-took : (w : Turn) (p : ReplayProgress) (m m' : Machine) (o : Outcom
     (n end next : ℕ) → p.waiting + length (answer_text (said o) buffer) + 1 ≤ length out → buffer ≡ cut reader 0 n
     → Replies w o m' (take n reader) → Put out p.waiting (answer_text (said o) buffer) mid end
     → Put mid end (10 ∷ []) after next → Took (answered w (replay_state_in p m out)) (take p.waiting out)
-    (keeping m' (cut after p.waiting (end - p.waiting)) p.malformed p.differing p.ended) (take next after)
+    (keeping m' (cut after p.waiting (end - p.waiting)) p.malformed.count p.differing.count (is_some p.ended)) (take next after)
 unfolding answered cut
 answered-took w p m m' o reader buffer out mid after n end next fits is h a b = let text = answer_text (said o) buffer in
     let same : text ≡ reply_text w.reply = ap (answer_text (said o)) is ∙ h.text in record {
       says = line-waits out mid after p.waiting end next text fits a b
           ∙ ap (λ (t : List ℕ). take p.waiting out ++ (t ++ (10 ∷ []))) same;
-      keeps = ap₂ (λ (x : Machine) (t : List ℕ). keeping x t p.malformed p.differing p.ended) h.machine
+      keeps = ap₂ (λ (x : Machine) (t : List ℕ). keeping x t p.malformed.count p.differing.count (is_some p.ended)) h.machine
           (answer-stands out mid after p.waiting end next text fits a b ∙ same);
     }
 
 -- ---- an answer of the log is compared
 
-pub behind-two : (l : List ℕ) (s n : ℕ) → s ≡ min 2 (length l) → n ≡ length l - s → cut l s n ≡ drop 2 l
-unfolding cut
-behind-two l s n is size = pick (leb 2 (length l)) refl
+pub behind-two : (l : List ℕ) (k : ℕ) → k ≡ min (length l) 2 → take (length l - k) (drop k l) ≡ drop 2 l
+behind-two l k is = take_all (length l - k) (drop k l) (omega (arith, length-drop k l)) ∙ pick (leb 2 (length l)) refl
   where
-    pick : (b : Bool) → leb 2 (length l) ≡ b → take n (drop s l) ≡ drop 2 l
-    pick true e = let h = leb-true 2 (length l) e in let at : s ≡ 2 = omega arith in
-        ap (λ (k : ℕ). take n (drop k l)) at ∙ take_all n (drop 2 l) (omega (arith, length-drop 2 l))
-    pick false e = let h = leb-false 2 (length l) e in let past : length l ≤ s = omega arith in
-        let short : length l ≤ 2 = omega arith in let none : drop s l ≡ [] = drop_of_length-le l past in
-        let two : drop 2 l ≡ [] = drop_of_length-le l short in ap (take n) none ∙ take_all n [] (omega arith) ∙ sym two
+    pick : (b : Bool) → leb 2 (length l) ≡ b → drop k l ≡ drop 2 l
+    pick true e = let h = leb-true 2 (length l) e in let at : k ≡ 2 = omega arith in ap (λ (i : ℕ). drop i l) at
+    pick false e = let h = leb-false 2 (length l) e in let past : length l ≤ k = omega arith in
+        let short : length l ≤ 2 = omega arith in drop_of_length-le l past ∙ sym (drop_of_length-le l short)
 
 pub counted-here : (p r : ReplayProgress) (x text y answer : List ℕ) → x ≡ text → y ≡ answer → CountsDifference p r x y
     → CountsDifference p r text answer
@@ -86,14 +85,15 @@ counted-compared p r text out h = unfold compared in record {
 
 -- ---- a version
 
-pub known-version : (p : ReplayProgress) (v : ℕ) → p.ended ≡ false → v ≡ 1 → Versioned p p v
+pub known-version : (p : ReplayProgress) (v : ℕ) → is_some p.ended ≡ false → v ≡ 1 → Versioned p p v
 known-version p v go e = unfold versioned in record {
   waiting = refl;
   keeps = λ m out. same-preserved m _ _ _ _ _ _ _ _ refl refl refl (go ∙ sym (ap not (eq-eqb v 1 e)));
 }
 
 pub other-version : (p r : ReplayProgress) (v : ℕ) → (v ≡ 1 → ⊥) → r.waiting ≡ p.waiting → r.from ≡ p.from
-    → r.end ≡ p.end → r.malformed ≡ p.malformed → r.differing ≡ p.differing → r.ended ≡ true → Versioned p r v
+    → r.end ≡ p.end → r.malformed.count ≡ p.malformed.count → r.differing.count ≡ p.differing.count → is_some r.ended ≡ true
+    → Versioned p r v
 other-version p r v e w f n i d g = unfold versioned in record {
   waiting = w;
   keeps = λ m out. same-preserved m _ _ _ _ _ _ _ _ (ap₂ (λ (i k : ℕ). cut out i (k - i)) f n) i d (g
@@ -147,17 +147,16 @@ module _ (line bytes : List ℕ) (l : ParsedEntry) (p : ReplayProgress) (m : Mac
     abbrev Taken : Type 0
     Taken = Took (entry_turn line (log_entry_of l bytes) (replay_state_in p m out)) (take p.waiting out) k waiting
 
-    pub fresh-took : (n : ℕ) → l ≡ Fresh n → Answered → Taken
-    fresh-took n e t = unfold entry_turn log_entry_of turn_of in rw e (rw e at t)
-
-    pub asks-took : (q : Request) (n room : ℕ) → l ≡ Asks q n room → Answered → Taken
-    asks-took q n room e t = unfold entry_turn log_entry_of turn_of in rw e (rw e at t)
-
-    pub order-took : (minute budget n : ℕ) → l ≡ Order minute budget n → Answered → Taken
-    order-took minute budget n e t = unfold entry_turn log_entry_of turn_of in rw e (rw e at t)
+    -- a call
+    pub calls-took : ((n : ℕ) × (l ≡ Fresh n)) ⊎ (((q : Request) × (n : ℕ) × (room : ℕ) × (l ≡ Asks q n room))
+        ⊎ ((minute : ℕ) × (budget : ℕ) × (n : ℕ) × (l ≡ Order minute budget n))) → Answered → Taken
+    unfolding entry_turn log_entry_of turn_of
+    calls-took (inl (n, e)) t = rw e (rw e at t)
+    calls-took (inr (inl (q, n, room, e))) t = rw e (rw e at t)
+    calls-took (inr (inr (minute, budget, n, e))) t = rw e (rw e at t)
 
     -- a line while the run goes on
-    pub line-took : p.ended ≡ false → log_entry_of l bytes ≡ call_in line → Taken
+    pub line-took : is_some p.ended ≡ false → log_entry_of l bytes ≡ call_in line → Taken
         → Took (line_turn line (replay_state_in p m out)) (take p.waiting out) k waiting
     unfolding line_turn
     line-took go means t = subst (λ (w : Printed). Took w (take p.waiting out) k waiting) (sym (ap (λ (b : Bool). cond b
@@ -165,7 +164,7 @@ module _ (line bytes : List ℕ) (l : ParsedEntry) (p : ReplayProgress) (m : Mac
         (λ (x : LogEntry). Took (entry_turn line x (replay_state_in p m out)) (take p.waiting out) k waiting) means t)
 
 -- a line after another version
-pub ended-took : (line : List ℕ) (p : ReplayProgress) (m : Machine) (out : List ℕ) → p.ended ≡ true
+pub ended-took : (line : List ℕ) (p : ReplayProgress) (m : Machine) (out : List ℕ) → is_some p.ended ≡ true
     → Took (line_turn line (replay_state_in p m out)) (take p.waiting out) (replay_state_in p m out) (take p.waiting out)
 unfolding line_turn silent
 ended-took line p m out e = subst (λ (w : Printed). Took w (take p.waiting out) (replay_state_in p m out)

@@ -1,9 +1,10 @@
 -- What performing a line promises.
+use Rattle.std.specs.declared.result.Result.TheVariants.{Ok, Err}
 use Rattle.std.specs.Prelude.{cond, List, ◌≡◌, leb, ℕ, min}
 use Rattle.state.specs.Outcomes.{refused, said}
-use Rattle.state.specs.declared.outcomes.Outcome.{Outcome}
-use Rattle.state.specs.declared.outcomes.Outcome.TheVariants.{Done, Offset, Given}
-use Rattle.state.specs.declared.outcomes.Outcome.TheVariants.{Granted, Pairs, Ordered, Refused}
+use Rattle.state.specs.Outcomes.{Outcome}
+use Rattle.state.specs.declared.outcomes.Answer.TheVariants.{Done, Offset, Given}
+use Rattle.state.specs.declared.outcomes.Answer.TheVariants.{Granted, Pairs, Ordered}
 use Rattle.requests.specs.declared.Request.{Request}
 use Rattle.requests.specs.declared.Request.TheVariants.{Begin, Seek, Write, GetFilePointer, Read}
 use Rattle.requests.specs.declared.Request.TheVariants.{Places, Commit, Abort, SetWindow, UndoCommit}
@@ -41,13 +42,13 @@ answer_size UndoCommit n = 0
 
 -- An order is answered there too.
 unfoldable pub order_size : Outcome → ℕ → ℕ
-order_size Done n = 0
-order_size (Offset o) n = 0
-order_size (Given k) n = 0
-order_size (Granted k) n = 0
-order_size (Pairs k) n = 0
-order_size (Ordered grants gap tried) n = min n 8
-order_size (Refused r) n = 0
+order_size (Ok Done) n = 0
+order_size (Ok (Offset o)) n = 0
+order_size (Ok (Given k)) n = 0
+order_size (Ok (Granted k)) n = 0
+order_size (Ok (Pairs k)) n = 0
+order_size (Ok (Ordered grants gap tried)) n = min n 8
+order_size (Err r) n = 0
 
 -- The turn of the store for what a line says; 17 where that is no call.
 unfoldable pub turn_of : LogEntry → Machine → Turn

@@ -1,6 +1,6 @@
 -- That the program does with a line what the definition of a replay says (`line_turn` of
 -- text_log/specs/Replay.antt).
-use Rattle.std.specs.Prelude.{List, ◌++◌, ◌≡◌, ℕ, ◌-◌}
+use Rattle.std.specs.Prelude.{List, ◌++◌, ◌≡◌, ℕ, ◌-◌, is_some}
 use Rattle.buffers.specs.Parts.{cut}
 use Rattle.spec.specs.Machine.{Machine}
 use Rattle.text_log.specs.Replay.{ReplayState, Printed, compared, versioned, one_more}
@@ -14,9 +14,9 @@ replay_state_in p m out =
     record {
       machine = m;
       answer = cut out p.from (p.end - p.from);
-      malformed = p.malformed;
-      differing = p.differing;
-      ended = p.ended;
+      malformed = p.malformed.count;
+      differing = p.differing.count;
+      ended = is_some p.ended;
     }
 
 -- What the definition says came of a line: its text was added to the output that waits, and k is kept.
@@ -37,6 +37,6 @@ pub record Versioned (p r : ReplayProgress) (v : ℕ) : Type 0 where
 -- A line of another form was counted.
 pub record Noted (p r : ReplayProgress) : Type 0 where
   pub waiting : r.waiting ≡ p.waiting
-  pub malformed : r.malformed ≡ one_more p.malformed
-  pub differing : r.differing ≡ p.differing
-  pub ended : r.ended ≡ p.ended
+  pub malformed : r.malformed.count ≡ one_more p.malformed.count
+  pub differing : r.differing.count ≡ p.differing.count
+  pub ended : is_some r.ended ≡ is_some p.ended

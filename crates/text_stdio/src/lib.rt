@@ -21,10 +21,7 @@ pub struct Streams {
 // Whether the program was given argument i, its own name counted as argument 0.
 pub fn has_argument(rt: &impl Env, i: usize) -> bool {
     let mut text = [0u8; 1];
-    match rt.arg(i, &mut text) {
-        Err(FillError::NotPresent) => false,
-        _ => true,
-    }
+    !matches!(rt.arg(i, &mut text), Err(FillError::NotPresent))
 }
 
 // Whether the read or write that failed so may be tried again; another program gets to run first.
@@ -100,15 +97,8 @@ pub fn write_out(streams: Streams, bytes: &[u8]) -> (usize, io::Result<()>)
 
 // How many lines end in the bytes, and n more.
 pub fn lines_more(bytes: &[u8], n: u64) -> u64 {
-    let mut lines = n;
-    let mut i = 0;
-    while i < bytes.len() {
-        if bytes[i] == b'\n' {
-            lines = std::num::wrapping_add_u64(lines, 1);
-        }
-        i += 1;
-    }
-    lines
+    let ended = bytes.iter().filter(|b| **b == b'\n').count();
+    std::num::wrapping_add_u64(n, ended as u64)
 }
 
 // Reports a text on standard error.

@@ -5,9 +5,10 @@ use lib.{ListN.{length, drop, get_or, drop_of_length-le}, Seq.drop-cons}
 use borrow.Author.Tests.{le-leb, lt-leb, eq-eqb, ne_eqb}
 use Prim.Native.Nat.{ℕ, ◌+◌, ◌≤◌, ◌<◌}
 use Rattle.requests.specs.declared.Request.{Request}
-use Rattle.text_numerals.specs.{Decimal.{Numeral, is_digit, worth}, declared.Field.{Field, TheVariants.{Missing, Number}}}
+use Rattle.std.specs.declared.option.Option.{Option, TheVariants.{None, Some}}
+use Rattle.text_numerals.specs.{Decimal.{Numeral, is_digit, worth}, declared.Number.{Number}}
 use Rattle.text_numerals.specs.Fields.{numeral_of}
-use Rattle.text_trace.specs.declared.{Parsed.{Parsed, TheVariants.{Another, Asks}}}
+use Rattle.text_trace.specs.declared.Asked.{Asked}
 use Rattle.text_trace.specs.Parsing.{parsed_line, start_of, Reads, Parses}
 use Rattle.text_trace.specs.Grammar.{Line, another, asks, after_numeral, writes, lettered, form, parsed}
 
@@ -55,23 +56,22 @@ lettered-other k t bytes b c a p s r w = unfold lettered in
     rw (ne_eqb k 66 b, ne_eqb k 67 c, ne_eqb k 65 a, ne_eqb k 80 p, ne_eqb k 83 s, ne_eqb k 82 r, ne_eqb k 87 w)
 
 -- What comes of a number that was read and is f.
-module _ (line : List ℕ) (f : Field) (g : Numeral) (next : ℕ → List ℕ → Line) (h : numeral_of line f ≡ g) where
-  pub after-missing : f ≡ Missing → Reads line Another (after_numeral g next)
+module _ (line : List ℕ) (f : Option Number) (g : Numeral) (next : ℕ → List ℕ → Line) (h : numeral_of line f ≡ g) where
+  pub after-missing : f ≡ None → Reads line None (after_numeral g next)
   unfolding numeral_of parsed_line start_of after_numeral
   after-missing e = rw (← h, e) (record { means = refl; within = omega arith })
 
-  pub after-number : (v end : ℕ) (r : Parsed) → f ≡ Number v end → Reads line r (next v (drop end line))
+  pub after-number : (n : Number) (r : Option Asked) → f ≡ Some n → Reads line r (next n.value (drop n.end line))
       → Reads line r (after_numeral g next)
-  after-number v end r e t = unfold numeral_of after_numeral in rw (← h, e) t
+  after-number n r e t = unfold numeral_of after_numeral in rw (← h, e) t
 
 -- A line means what another definition says of it; it has another form.
-pub as-meant : (line : List ℕ) (r : Parsed) (meant said : Line) → meant ≡ said → Reads line r said → Reads line r meant
+pub as-meant : (line : List ℕ) (r : Option Asked) (meant said : Line) → meant ≡ said → Reads line r said → Reads line r meant
 as-meant line r meant said e h = rw e h
 
-pub other : (line : List ℕ) (meant : Line) → meant ≡ another → Reads line Another meant
+pub other : (line : List ℕ) (meant : Line) → meant ≡ another → Reads line None meant
 other line meant e = unfold parsed_line start_of in rw e (record { means = refl; within = omega arith })
 
 -- A request's bytes start inside its line.
-pub starts-within : (line : List ℕ) (r : Parsed) → Parses line r → (q : Request) (start : ℕ) → r ≡ Asks q start
-    → start ≤ length line
-starts-within line r p q start e = unfold start_of in omega (arith, p.within, ap start_of e)
+pub starts-within : (line : List ℕ) (r : Option Asked) → Parses line r → (a : Asked) → r ≡ Some a → a.start ≤ length line
+starts-within line r p a e = unfold start_of in omega (arith, p.within, ap start_of e)

@@ -8,7 +8,7 @@ use Rattle.requests.specs.{declared.Request.TheVariants.{SetWindow, UndoCommit},
 use Rattle.text_trace.specs.Grammar.{Line, another, asks, parsed}
 use Rattle.text_numerals.{specs.Put.Put, proofs.PutLaws.put-text}
 use Rattle.text_answers.specs.Printed.{printed}
-use Rattle.state.specs.{Outcomes.{Said, said}, declared.outcomes.Outcome.Outcome}
+use Rattle.state.specs.{Outcomes.{Said, said}, Outcomes.Outcome}
 use Rattle.spec.specs.{Messages.{Reply, TurnOf, refuse_turn, buffer_of, buffer_of_call}, Machine.Machine, Calls.call}
 use Rattle.trace.specs.{Answers.{AnswersTo, Answers}, Transcript.{reader_after_line, TraceState, trace_line_turn, store_trace}}
 use Rattle.text_lines.specs.Programs.{transcript, state_after, Answered}

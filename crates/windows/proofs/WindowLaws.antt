@@ -11,12 +11,12 @@ pub minute-most : (n : ℕ) → minute_in n ≡ true → n ≤ last_minute
 minute-most n e = unfold minute_in in leb-true n last_minute e
 
 module _ (w : Window) (minute : ℕ) where
-  pub by-day : w.start < w.end → leb w.start minute && ltb minute w.end ≡ is_open_at w minute
-  by-day l = unfold is_open_at in rw (ne_eqb w.start w.end (λ p. omega arith), lt-ltb w.start w.end l)
+  pub by_day : w.start < w.end → leb w.start minute && ltb minute w.end ≡ is_open_at w minute
+  by_day l = unfold is_open_at in rw (ne_eqb w.start w.end (λ p. omega arith), lt-ltb w.start w.end l)
 
-  pub by-night : w.end ≤ w.start → leb w.start minute || ltb minute w.end ≡ is_open_at w minute
+  pub by_night : w.end ≤ w.start → leb w.start minute || ltb minute w.end ≡ is_open_at w minute
   unfolding is_open_at
-  by-night l = rw (le-ltb w.start w.end l) (pick (eqb w.start w.end) refl)
+  by_night l = rw (le-ltb w.start w.end l) (pick (eqb w.start w.end) refl)
     where
       always : (b : Bool) → leb w.start minute ≡ b → w.start ≡ w.end → b || ltb minute w.end ≡ true
       always true e q = refl

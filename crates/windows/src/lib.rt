@@ -15,21 +15,24 @@ pub struct Window {
 }
 
 // Whether the number is a minute of the day.
+#[tactic(auto, unfolding(crate::specs::Windows::minute_in))]
 pub fn minute_in(n: usize) -> bool
     ensures { result ≡ minute_in n }
 {
-    n <= LAST_MINUTE as usize
+    n <= usize::from(LAST_MINUTE)
 }
 
 // Whether the minute lies in the window. An equal start and end need no test of their own: every minute is at
 // that one or later, or before it.
+#[tactic(auto, using(crate::proofs::WindowLaws::by_day, crate::proofs::WindowLaws::by_night))]
 pub fn is_open(w: Window, minute: u16) -> bool
     ensures { result ≡ is_open_at w minute }
 {
     let from = w.start <= minute;
     let before = minute < w.end;
     if w.start < w.end {
-        return from & before;
+        from & before
+    } else {
+        from | before
     }
-    from | before
 }

@@ -3,7 +3,6 @@ use mathlib.Core.Path.{sym, ◌∙◌}
 use Rattle.admission.proofs.Laws.{failed, test-held}
 use Rattle.admission.proofs.Tests.{none_in, open-decides, open-fails, counters-hold, standings-hold, records-decide}
 use Rattle.admission.proofs.Tests.{all-empty}
-use borrow.Author.Rules.{rules}
 use mathlib.Core.Bool.{not}
 use mathlib.Core.Path.{ap}
 use Rattle.admission.proofs.transactions_in.Goals as goal
@@ -15,16 +14,15 @@ pub returns-then-not-open_at_most : goal.returns-then-not-open_at_most
 returns-then-not-open_at_most c = open-fails _ (failed (c.open_at_most.ensures ∙ open-decides _) (ap not c.if-not-open_at_most.true))
 
 pub returns-then-all_use_at_most : goal.returns-then-all_use_at_most
-returns-then-all_use_at_most c = let i = c in
-    records-decide _ (test-held (i.open_at_most.ensures ∙ open-decides _) (ap not i.if-not-open_at_most.false)) _
+returns-then-all_use_at_most c =
+    records-decide _ (test-held (c.open_at_most.ensures ∙ open-decides _) (ap not c.if-not-open_at_most.false)) _
     (all-empty _ (sym c.all_use_at_most.ensures ∙ c.if-all_use_at_most.true))
 
 pub journals_in-requires : goal.journals_in-requires
-journals_in-requires c = let i = c in
-    let both = test-held (i.open_at_most.ensures ∙ open-decides _) (ap not i.if-not-open_at_most.false) in
+journals_in-requires c =
+    let both = test-held (c.open_at_most.ensures ∙ open-decides _) (ap not c.if-not-open_at_most.false) in
     (counters-hold _ both, standings-hold _ both)
 
 pub returns : goal.returns
 returns c =
-    let i = c in
-    records-decide _ (test-held (i.open_at_most.ensures ∙ open-decides _) (ap not i.if-not-open_at_most.false)) _ c.journals_in.ensures
+    records-decide _ (test-held (c.open_at_most.ensures ∙ open-decides _) (ap not c.if-not-open_at_most.false)) _ c.journals_in.ensures

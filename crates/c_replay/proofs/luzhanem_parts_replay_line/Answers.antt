@@ -1,8 +1,7 @@
 -- `luzhanem_parts_replay_line` meets its contract: the code of what the line's turn answers. Assumes nothing.
 use mathlib.Core.Path.{refl, ◌∙◌}
-use borrow.Author.Rules.{rules}
 use Rattle.c_codes.proofs.CodeLaws.{read_back}
-use Rattle.c_replay.proofs.{LineLaws.{nothing-replayed, call-replayed}, luzhanem_parts_replay_line.Statement.statement}
+use Rattle.c_replay.proofs.{LineLaws.{nothing-replayed, call-replayed}}
 use Rattle.c_replay.proofs.luzhanem_parts_replay_line.Goals as goal
 
 pub returns-then-asks_nothing : goal.returns-then-asks_nothing

@@ -11,11 +11,11 @@ use Rattle.call_places.proofs.count_intervals.Goals as goal
 
 pub loop-p-init : goal.loop-p-init
 loop-p-init c = let a = c.args in
-    (omega arith, omega arith, [], refl, listing_none (covered_at (recorded_in a.state.now) a.t a.used.records a.f))
+    (omega arith, omega arith, [], refl, listing_none (covered_at (recorded_in a.records.now.state.now) a.records.now.t a.records.now.used.records a.f))
 
 pub returns-then-s-eq0 : goal.returns-then-s-eq0
 returns-then-s-eq0 c = let a = c.args in let l = c.loop-p in let n = c.next_interval-s in
-    sym l.invariant.3 ∙ ap length (listing-all (covered_at (recorded_in a.state.now) a.t a.used.records a.f) l.p
+    sym l.invariant.3 ∙ ap length (listing-all (covered_at (recorded_in a.records.now.state.now) a.records.now.t a.records.now.used.records a.f) l.p
     l.invariant.2 l.invariant.4 n.result n.ensures c.if-s-eq0.true)
 
 pub loop-p-preserved : goal.loop-p-preserved
@@ -24,11 +24,11 @@ loop-p-preserved c = let a = c.args in let l = c.loop-p in let n = c.next_interv
   omega (arith, n.ensures.before.start, c.if-s-eq0.false),
   l.invariant.2 ++ (as_listed n.result ∷ []),
   length-snoc l.invariant.2 (as_listed n.result) ∙ ap (λ (n : ℕ). n + 1) l.invariant.3,
-  listing-more (covered_at (recorded_in a.state.now) a.t a.used.records a.f) l.p l.invariant.2 l.invariant.4 n.result
+  listing-more (covered_at (recorded_in a.records.now.state.now) a.records.now.t a.records.now.used.records a.f) l.p l.invariant.2 l.invariant.4 n.result
       n.ensures c.if-s-eq0.false,
 )
 
 pub returns : goal.returns
 returns c = let a = c.args in let l = c.loop-p in
-    sym l.invariant.3 ∙ ap length (listing-end (covered_at (recorded_in a.state.now) a.t a.used.records a.f) l.p
+    sym l.invariant.3 ∙ ap length (listing-end (covered_at (recorded_in a.records.now.state.now) a.records.now.t a.records.now.used.records a.f) l.p
     l.invariant.2 l.invariant.4 c.loop-p-test.false)

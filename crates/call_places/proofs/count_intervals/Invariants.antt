@@ -12,7 +12,7 @@ use Rattle.call_places.proofs.count_intervals.Given as goal
 
 abbrev pub invariant-loop-p : goal.invariant-loop-p
 invariant-loop-p l = (l.p ≤ file_bytes) × (l.n ≤ l.p) × (m : List Listed) × (length m ≡ l.n)
-    × Listing (covered_at (recorded_in l.state) l.t l.used.records l.f) l.p m
+    × Listing (covered_at (recorded_in l.records.state.now) l.records.t l.records.used.records l.f) l.p m
 
 abbrev pub decreases-loop-p : goal.decreases-loop-p
 decreases-loop-p l = file_bytes - l.p

@@ -8,7 +8,7 @@ use Rattle.call_places.proofs.first_clear.Given as goal
 
 abbrev pub invariant-loop-q : goal.invariant-loop-q
 invariant-loop-q l = (l.p ≤ l.q) × (l.q ≤ file_bytes)
-    × ((i : ℕ) → l.p ≤ i → i < l.q → covered_at (recorded_in l.state) l.t l.used.records l.f i ≡ true)
+    × ((i : ℕ) → l.p ≤ i → i < l.q → covered_at (recorded_in l.records.state.now) l.records.t l.records.used.records l.f i ≡ true)
 
 abbrev pub decreases-loop-q : goal.decreases-loop-q
 decreases-loop-q l = file_bytes - l.q

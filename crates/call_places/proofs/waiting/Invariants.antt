@@ -1,6 +1,6 @@
 -- `call_places::waiting` meets its contract. The loop's invariant: none of the first k records waits. Assumes nothing.
 use mathlib.Core.{Bool.{Bool, false}, List.List, Path.{◌≡◌}}
-use Prim.Native.Nat.{ℕ, ◌-◌, ◌≤◌}
+use Prim.Native.Nat.{ℕ}
 use Rattle.state.specs.{Journal.write_record_at, Layout.{store_of, journal_of}}
 use Rattle.admission.{specs.FirstRefusal.some_below}
 use Rattle.call_places.specs.PlacesCall.{waits_on}
@@ -11,7 +11,4 @@ abbrev pub waits-at : List ℕ → ℕ → ℕ → ℕ → Bool
 waits-at state t f i = waits_on (store_of state).filenumbers f (write_record_at (journal_of state) t i)
 
 abbrev pub invariant-loop-k : goal.invariant-loop-k
-invariant-loop-k l = (l.k ≤ l.used.records) × (some_below (waits-at l.state l.t l.f) l.k ≡ false)
-
-abbrev pub decreases-loop-k : goal.decreases-loop-k
-decreases-loop-k l = l.used.records - l.k
+invariant-loop-k l = some_below (waits-at l.records.state.now l.records.t l.f) l.k ≡ false

@@ -17,20 +17,20 @@ loop-p-init c = let a = c.args in (
   refl,
   [],
   refl,
-  listing_none (covered_at (recorded_in a.state.now) a.t a.used.records a.f),
+  listing_none (covered_at (recorded_in a.records.now.state.now) a.records.now.t a.records.now.used.records a.f),
   list-pairs-none a.out.now,
 )
 
 pub returns-then-s-eq0 : goal.returns-then-s-eq0
 returns-then-s-eq0 c = let a = c.args in let l = c.loop-p in let n = c.next_interval-s in
     l.invariant.5 ∙ pairs-all a.out.now l.invariant.2 ∙ ap (λ (m : List Listed). with_pairs m a.out.now)
-    (listing-all (covered_at (recorded_in a.state.now) a.t a.used.records a.f) l.p l.invariant.2 l.invariant.4 n.result
+    (listing-all (covered_at (recorded_in a.records.now.state.now) a.records.now.t a.records.now.used.records a.f) l.p l.invariant.2 l.invariant.4 n.result
     n.ensures c.if-s-eq0.true)
 
 -- The list has an interval more than those written.
 pub put_pair-requires : goal.put_pair-requires
 put_pair-requires c = let a = c.args in let l = c.loop-p in let n = c.next_interval-s in
-    let room = listing-room (covered_at (recorded_in a.state.now) a.t a.used.records a.f) l.p l.invariant.2 l.invariant.4
+    let room = listing-room (covered_at (recorded_in a.records.now.state.now) a.records.now.t a.records.now.used.records a.f) l.p l.invariant.2 l.invariant.4
     n.result n.ensures c.if-s-eq0.false in (
       omega (arith, room, l.invariant.3, l.invariant.1, c.requires.room),
       omega (arith, n.ensures.whole.within),
@@ -39,13 +39,13 @@ put_pair-requires c = let a = c.args in let l = c.loop-p in let n = c.next_inter
 
 pub loop-p-preserved : goal.loop-p-preserved
 loop-p-preserved c = let a = c.args in let l = c.loop-p in let n = c.next_interval-s in
-    let room = listing-room (covered_at (recorded_in a.state.now) a.t a.used.records a.f) l.p l.invariant.2 l.invariant.4
+    let room = listing-room (covered_at (recorded_in a.records.now.state.now) a.records.now.t a.records.now.used.records a.f) l.p l.invariant.2 l.invariant.4
     n.result n.ensures c.if-s-eq0.false in (
       n.ensures.whole.within,
       c.put_pair.auto.out ∙ l.invariant.1,
       l.invariant.2 ++ (as_listed n.result ∷ []),
       omega (arith, length-snoc l.invariant.2 (as_listed n.result), l.invariant.3),
-      listing-more (covered_at (recorded_in a.state.now) a.t a.used.records a.f) l.p l.invariant.2 l.invariant.4 n.result
+      listing-more (covered_at (recorded_in a.records.now.state.now) a.records.now.t a.records.now.used.records a.f) l.p l.invariant.2 l.invariant.4 n.result
           n.ensures c.if-s-eq0.false,
       c.put_pair.ensures ∙ ap (λ (o : List ℕ). pasted o l.at (pair n.result)) l.invariant.5
           ∙ list-pairs-more a.out.now l.invariant.2 n.result l.at (sym l.invariant.3)
@@ -55,5 +55,5 @@ loop-p-preserved c = let a = c.args in let l = c.loop-p in let n = c.next_interv
 pub returns : goal.returns
 returns c = let a = c.args in let l = c.loop-p in
     l.invariant.5 ∙ pairs-all a.out.now l.invariant.2 ∙ ap (λ (m : List Listed). with_pairs m a.out.now)
-    (listing-end (covered_at (recorded_in a.state.now) a.t a.used.records a.f) l.p l.invariant.2 l.invariant.4
+    (listing-end (covered_at (recorded_in a.records.now.state.now) a.records.now.t a.records.now.used.records a.f) l.p l.invariant.2 l.invariant.4
     c.loop-p-test.false)

@@ -14,7 +14,7 @@ use Rattle.call_places.proofs.write_interval_list.Given as goal
 abbrev pub invariant-loop-p : goal.invariant-loop-p
 invariant-loop-p l =
     (l.p ≤ file_bytes) × (length l.out ≡ length l.initial.out) × (m : List Listed) × (4 * length m ≡ l.at) × Listing
-    (covered_at (recorded_in l.state) l.t l.used.records l.f) l.p m × (l.out ≡ pasted l.initial.out 0 (encoded m))
+    (covered_at (recorded_in l.records.state.now) l.records.t l.records.used.records l.f) l.p m × (l.out ≡ pasted l.initial.out 0 (encoded m))
 
 abbrev pub decreases-loop-p : goal.decreases-loop-p
 decreases-loop-p l = file_bytes - l.p

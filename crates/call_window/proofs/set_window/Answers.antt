@@ -1,63 +1,48 @@
 -- `call_window::set_window` meets its contract.
+use Rattle.std.proofs.lemmas.Result.{err_from_is_err_and}
 use borrow.Author.Rules.{rules}
-use mathlib.Core.{List.[], Path.{◌≡◌, sym, ap, ◌∙◌}}
-use Prim.Native.Nat.{ℕ, ◌≤◌}
+use mathlib.Core.{List.[], Path.{◌≡◌}}
+use Prim.Native.Nat.{◌≤◌}
 use Rattle.limits.specs.Limits.{last_minute}
 use Rattle.windows.{specs.Windows.minute_in, proofs.WindowLaws.minute-most}
 use Rattle.admission.proofs.Laws.{and_left, and_right, AdmittedWindow, admitted-window}
-use Rattle.spec.specs.{Machine.{Machine, sizes}, Calls.{passing, call, window_turn}, Promises.machine_of}
-use Rattle.refinement.proofs.TurnLaws.{gate-number, gate-zero, passing-number, turned-follows}
+use Rattle.spec.specs.{Machine.{Machine, sizes}, Calls.{call}, Promises.machine_of}
+use Rattle.refinement.proofs.TurnLaws.{gate-zero, gate-turned, turned-follows}
 use Rattle.call_window.proofs.WindowRules.{window-tests, window-follows}
+use Rattle.call_window.proofs.set_window.Goals.{In_ok-admit_window}
 use Rattle.call_window.proofs.set_window.Goals as goal
 
-pub returns-in-Refused : goal.returns-in-Refused
+-- What its tests tell, once they are passed.
+module _ (c : In_ok-admit_window) where
+  abbrev machine : Machine
+  machine = machine_of c.args.state.now c.args.files.now c.args.logs.now c.args.marks.now c.args.undo.now
+
+  passed : window-tests machine c.args.f c.args.start c.args.end ≡ 0
+  passed = gate-zero _ _ (rw c.of.ensures at c.admit_window.ensures) c.in_ok-admit_window.was
+
+  admits : AdmittedWindow (sizes machine) machine.store machine.journal c.args.f c.args.start c.args.end
+  admits = admitted-window (sizes machine) machine.store machine.journal c.args.f c.args.start c.args.end passed
+
+  minutes : (c.args.start ≤ last_minute) × (c.args.end ≤ last_minute)
+  minutes = let first = minute_in c.args.start in let last = minute_in c.args.end in
+      (minute-most _ (and_left first last admits.minutes), minute-most _ (and_right first last admits.minutes))
+
+pub returns-in_err-admit_window : goal.returns-in_err-admit_window
 unfolding call
-returns-in-Refused c =
-    let machine : Machine = machine_of c.args.state.now c.args.files.now c.args.logs.now c.args.marks.now c.args.undo.now in
-    let start = c in
-    let m = machine in let r = c.in-Refused.r in
-    let e = gate-number _ _ c.admit_window-gate.ensures.gate r c.in-Refused.is in
-    let next = window_turn start.args.f start.args.start start.args.end m in
-    turned-follows r [] _ _ _ _ _ _ (ap (λ (n : ℕ). passing n [] m next) (sym e) ∙ passing-number r [] m next)
+returns-in_err-admit_window c =
+    let p = err_from_is_err_and c.from_residual.result c.from_residual.ensures.1 in rw (p.1, p.2)
+    (turned-follows _ [] _ _ _ _ _ _
+    (gate-turned _ _ (rw c.of.ensures at c.admit_window.ensures) _ [] _ _ c.in_err-admit_window.was))
 
 pub overflow_cast-w : goal.overflow_cast-w
-overflow_cast-w c =
-    let machine : Machine = machine_of c.args.state.now c.args.files.now c.args.logs.now c.args.marks.now c.args.undo.now in
-    let passed : let a = c.args in window-tests machine a.f a.start a.end ≡ 0 = gate-zero _ _ c.admit_window-gate.ensures.gate c.in_default.is in
-    let admits : let m = machine in let a = c.args in AdmittedWindow (sizes m) m.store m.journal a.f a.start a.end = let m = machine in let a = c.args in
-    admitted-window (sizes m) m.store m.journal a.f a.start a.end passed in
-    let minutes : let a = c.args in (a.start ≤ last_minute) × (a.end ≤ last_minute) = let a = c.args in let both = admits.minutes in (
-      minute-most a.start (and_left (minute_in a.start) (minute_in a.end) both),
-      minute-most a.end (and_right (minute_in a.start) (minute_in a.end) both),
-    ) in
-    let l = minutes in search rules
+overflow_cast-w c = let l = minutes (goal.at.overflow_cast-w c).In_ok-admit_window in search rules
 
 pub overflow_cast-w-2 : goal.overflow_cast-w-2
-overflow_cast-w-2 c =
-    let machine : Machine = machine_of c.args.state.now c.args.files.now c.args.logs.now c.args.marks.now c.args.undo.now in
-    let passed : let a = c.args in window-tests machine a.f a.start a.end ≡ 0 = gate-zero _ _ c.admit_window-gate.ensures.gate c.in_default.is in
-    let admits : let m = machine in let a = c.args in AdmittedWindow (sizes m) m.store m.journal a.f a.start a.end = let m = machine in let a = c.args in
-    admitted-window (sizes m) m.store m.journal a.f a.start a.end passed in
-    let minutes : let a = c.args in (a.start ≤ last_minute) × (a.end ≤ last_minute) = let a = c.args in let both = admits.minutes in (
-      minute-most a.start (and_left (minute_in a.start) (minute_in a.end) both),
-      minute-most a.end (and_right (minute_in a.start) (minute_in a.end) both),
-    ) in
-    let l = minutes in search rules
+overflow_cast-w-2 c = let l = minutes (goal.at.overflow_cast-w-2 c).In_ok-admit_window in search rules
 
 pub put_window-requires : goal.put_window-requires
-put_window-requires c =
-    let machine : Machine = machine_of c.args.state.now c.args.files.now c.args.logs.now c.args.marks.now c.args.undo.now in
-    let passed : let a = c.args in window-tests machine a.f a.start a.end ≡ 0 = gate-zero _ _ c.admit_window-gate.ensures.gate c.in_default.is in
-    let admits : let m = machine in let a = c.args in AdmittedWindow (sizes m) m.store m.journal a.f a.start a.end = let m = machine in let a = c.args in
-    admitted-window (sizes m) m.store m.journal a.f a.start a.end passed in
-    admits.small
+put_window-requires c = (admits (goal.at.put_window-requires c).In_ok-admit_window).small
 
 pub returns : goal.returns
-returns c =
-    let machine : Machine = machine_of c.args.state.now c.args.files.now c.args.logs.now c.args.marks.now c.args.undo.now in
-    let passed : let a = c.args in window-tests machine a.f a.start a.end ≡ 0 = gate-zero _ _ c.admit_window-gate.ensures.gate c.in_default.is in
-    let admits : let m = machine in let a = c.args in AdmittedWindow (sizes m) m.store m.journal a.f a.start a.end = let m = machine in let a = c.args in
-    admitted-window (sizes m) m.store m.journal a.f a.start a.end passed in
-    let told = c in let a = told.args in
-    window-follows a.f a.start a.end _ _ _ _ _ told.admit_window-gate.ensures.long
-    admits.small passed _ c.put_window.ensures
+returns c = let s = (goal.at.returns c).In_ok-admit_window in let a = c.args in
+    window-follows a.f a.start a.end _ _ _ _ _ c.told-state (admits s).small (passed s) _ c.put_window.ensures

@@ -1,7 +1,6 @@
 -- `commit_windows::has_byte_for_closed` meets its contract.
 -- No file is closed.
 use mathlib.Core.Path.{sym, ap, ◌∙◌}
-use borrow.Author.Rules.{rules}
 use Rattle.commit_windows.specs.WindowCheck.{has_byte_for}
 use Rattle.commit_windows.proofs.ClosingLaws.{none-closed, closed_is}
 use Rattle.commit_windows.proofs.has_byte_for_closed.Goals as goal

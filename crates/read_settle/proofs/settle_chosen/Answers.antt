@@ -1,26 +1,24 @@
 -- `read_settle::settle_chosen` meets its contract.
--- Some are chosen, and the transaction is read.
-use borrow.Author.{Rules.rules, Tests.not-true}
-use Rattle.refinement.proofs.Shapes.{sixteen-descriptors}
+use borrow.Author.Tests.{not-true}
+use mathlib.Core.{Bool.not, Path.ap}
+use Rattle.std.proofs.lemmas.Result.{err_from_is_err_and}
 use Rattle.read_settle.proofs.InRecord.{none-settled, past-settled, settled-fits, all_settled}
-use mathlib.Core.Bool.{not}
-use mathlib.Core.Path.{ap}
 use Rattle.read_settle.proofs.settle_chosen.Goals as goal
 
 pub returns-then-not-any : goal.returns-then-not-any
-returns-then-not-any c = let start = c in
-    none-settled _ _ _ start.requires (c.any.ensures (not-true _ (ap not c.if-not-any.true)))
+returns-then-not-any c = none-settled _ _ _ c.requires (c.any.ensures (not-true _ (ap not c.if-not-any.true)))
 
 pub put_chosen-requires : goal.put_chosen-requires
-put_chosen-requires c = let told = c in let called = told in
-    let read = called in let start = read in (
-      start.requires.small,
-      λ e h q. settled-fits _ _ _ start.requires _ (rw read.transaction_at-x.ensures at called.settle-a.ensures)
-          told.in-Settled.is e h,
-    )
+put_chosen-requires c = (
+  c.requires.small,
+  λ e h q. settled-fits _ _ _ c.requires _ (rw c.transaction_at-x.ensures at c.settle.ensures) _ c.in_ok-y.was e h,
+)
+
+pub returns-in_err-y : goal.returns-in_err-y
+returns-in_err-y c = let p = err_from_is_err_and c.from_residual.result c.from_residual.ensures.1 in
+    rw (p.1, p.2) (past-settled _ _ _ c.requires _ (rw c.transaction_at-x.ensures at c.settle.ensures) _ c.in_err-y.was)
 
 pub returns : goal.returns
-returns c = let placing = c in let told = placing in
-    let called = told in let read = called in let own = read.transaction_at-x.ensures in
-    all_settled _ _ _ read.requires _ (rw own at called.settle-a.ensures) told.in-Settled.is _ _
-    (rw own at placing.place_records.ensures) c.put_chosen.ensures
+returns c = let own = c.transaction_at-x.ensures in
+    all_settled _ _ _ c.requires _ (rw own at c.settle.ensures) _ c.in_ok-y.was _ _
+    (rw own at c.place_records.ensures) c.put_chosen.ensures

@@ -3,7 +3,7 @@
 use mathlib.Core.{Path.{◌≡◌}}
 use lib.ListN.{length, take, drop}
 use Prim.Native.Nat.{◌-◌, ◌≤◌}
-use Rattle.spec.specs.Promises.{machine_of}
+use Rattle.store.specs.Kept.{machine_in}
 use Rattle.text_log.specs.Replay.{replaying}
 use Rattle.text_lines.{specs.Programs.{at_end, within}}
 use Rattle.text_replay.specs.{Bounds.Rooms, Turns.replay_state_in}
@@ -12,9 +12,9 @@ use Rattle.replay.proofs.take_piece.Given as goal
 
 abbrev pub invariant-loop-p : goal.invariant-loop-p
 invariant-loop-p l = PiecesResting l.p × (l.p.at ≤ length l.piece) × (length l.line ≡ 8238) × Rooms l.bytes l.reader l.out × (at_end replaying
-    (within (replay_state_in l.initial.p (machine_of l.initial.state l.initial.files l.initial.logs l.initial.marks l.initial.undo) l.initial.out) (take l.initial.p.pending l.initial.line) l.piece) ≡ at_end
+    (within (replay_state_in l.initial.p (machine_in l.initial.store) l.initial.out) (take l.initial.p.pending l.initial.line) l.piece) ≡ at_end
     replaying
-    (within (replay_state_in l.p (machine_of l.state l.files l.logs l.marks l.undo) l.out) (take l.p.pending l.line) (drop l.p.at l.piece)))
+    (within (replay_state_in l.p (machine_in l.store) l.out) (take l.p.pending l.line) (drop l.p.at l.piece)))
 
 abbrev pub decreases-loop-p : goal.decreases-loop-p
 decreases-loop-p l =

@@ -13,7 +13,8 @@ use native.Mathlib.Omega.{arith}
 use Prim.Native.Nat.{ℕ, zero, suc}
 use Rattle.state.specs.{declared.{StoreMeaning.StoreMeaning, outcomes.Refusal.TheVariants.Stale}, StoreMeaning.ended}
 use Rattle.state.specs.Outcomes.{number, Said, refused}
-use Rattle.admission.specs.Admission.{Sizes, first_tests, shared, window_refusal, admission_of_window, admission_of_undo, admission}
+use Rattle.admission.specs.Admission.{first_tests, shared, window_refusal, admission_of_window, admission_of_undo, admission}
+use Rattle.admission.specs.declared.Sizes.{Sizes}
 use Rattle.admission.specs.{Admission.{admission_of_begin, admission_of_fresh}, FirstRefusal.unless}
 use Rattle.spec.proofs.Theorems.Answers.{IsAnswer, answer-not-refused, Leaving, Right, right-step}
 use Rattle.spec.proofs.Theorems.RefusalOrder.{call-says, fresh-says, refusal-rows, fresh-row, call_known, fresh-known}

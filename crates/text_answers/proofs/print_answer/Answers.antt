@@ -5,7 +5,6 @@ use Rattle.state.specs.Outcomes.{said}
 use Rattle.text_answers.specs.Printed.{printed, spelled}
 use Rattle.text_numerals.proofs.PutLaws.{then}
 use Rattle.text_answers.proofs.Laws.{length-spelled}
-use borrow.Author.Rules.{rules}
 use Rattle.text_answers.proofs.print_answer.Goals as goal
 
 pub put_byte-requires : goal.put_byte-requires

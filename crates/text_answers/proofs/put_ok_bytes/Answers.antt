@@ -4,7 +4,6 @@ use native.Mathlib.Omega.{arith}
 use Rattle.text_numerals.{specs.Pairs.hex_pairs, proofs.PutLaws.{then, length_pairs}}
 use Rattle.text_answers.specs.Printed.{ok}
 use Rattle.text_answers.proofs.Laws.{text-bytes-none, bytes-some}
-use borrow.Author.Rules.{rules}
 use Rattle.text_answers.proofs.put_ok_bytes.Goals as goal
 
 pub returns-then-bytes-eq0 : goal.returns-then-bytes-eq0

@@ -4,7 +4,6 @@ use native.Mathlib.Omega.{arith}
 use Rattle.text_answers.specs.Printed.{ok, ok_number, decimal}
 use Rattle.text_numerals.proofs.PutLaws.{then}
 use Rattle.text_answers.proofs.Laws.{length-decimal}
-use borrow.Author.Rules.{rules}
 use Rattle.text_answers.proofs.put_ok_number.Goals as goal
 
 pub put_decimal-requires : goal.put_decimal-requires

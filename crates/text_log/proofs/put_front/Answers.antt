@@ -8,6 +8,6 @@ use Rattle.text_log.proofs.put_front.Goals as goal
 
 pub returns : goal.returns
 returns c = let bs = c.args.bytes.now in
-    let n = c.smaller-end.result in
-    let e : n ≡ min 4097 (length bs) = omega (arith, c.smaller-end.ensures) in
+    let n = c.min-end.result in
+    let e : n ≡ min 4097 (length bs) = omega (arith, c.min-end.ensures) in
     rw (sym (ap (λ (k : ℕ). take k bs) e ∙ take_within 4097 bs)) c.put_write.ensures

@@ -8,7 +8,7 @@ pub put_byte-next-requires : goal.put_byte-next-requires
 put_byte-next-requires c = let start = c in omega (
   arith,
   length-joined start.args.t (start.args.d ∷ []),
-  c.put_two-end.ensures.end,
+  c.put_numbers-end.ensures.end,
   start.requires.0,
 )
 
@@ -16,7 +16,7 @@ pub overflow_add-after : goal.overflow_add-after
 overflow_add-after c = let start = c in omega (
   arith,
   length-joined start.args.t (start.args.d ∷ []),
-  c.put_two-end.ensures.end,
+  c.put_numbers-end.ensures.end,
   c.put_byte-next.ensures.end,
   start.requires.1,
 )
@@ -24,7 +24,7 @@ overflow_add-after c = let start = c in omega (
 pub returns-then-is_text : goal.returns-then-is_text
 returns-then-is_text c = let start = c in
     let spaced = put-space _ _ _ start.requires.0
-    c.put_two-end.ensures
+    c.put_numbers-end.ensures
     c.put_byte-next.ensures in
     put-write-line start.args.t start.args.d start.args.bytes.now start.requires.0 start.requires.1 spaced
     c.copy_to.ensures (sym c.is_text.ensures
@@ -34,7 +34,7 @@ pub put_pairs-requires : goal.put_pairs-requires
 put_pairs-requires c = let start = c in omega (
   arith,
   length-joined start.args.t (start.args.d ∷ []),
-  c.put_two-end.ensures.end,
+  c.put_numbers-end.ensures.end,
   c.put_byte-next.ensures.end,
   start.requires.0,
   start.requires.1,
@@ -42,7 +42,7 @@ put_pairs-requires c = let start = c in omega (
 
 pub returns : goal.returns
 returns c = let start = c in
-    let spaced = put-space _ _ _ start.requires.0 c.put_two-end.ensures c.put_byte-next.ensures in
+    let spaced = put-space _ _ _ start.requires.0 c.put_numbers-end.ensures c.put_byte-next.ensures in
     put-other-text start.args.t start.args.d start.args.bytes.now start.requires.0 start.requires.1 spaced
     c.put_byte.ensures c.put_pairs.ensures
     (sym c.is_text.ensures

@@ -1,43 +1,42 @@
 -- The digits still allowed, from the number and place at hand on, make what those from the start make.
-use mathlib.Core.Path.{◌≡◌, refl, sym, ap, ◌∙◌}
-use Prim.Native.Nat.{◌<◌}
-use native.Mathlib.Omega.{arith}
-use lib.ListN.{drop}
-use borrow.Author.Rules.{rules}
-use Rattle.text_numerals.specs.{Decimal.{past, worth, digits, fitting}, Fields.numeral_of}
-use Rattle.text_numerals.proofs.ReadLaws.{read-failed, read_held, numeral-fits, digits-none, digits-end, digits-stop}
-use Rattle.text_numerals.proofs.ReadLaws.{digits_more, digits-over}
-use mathlib.Core.Bool.{not}
+use Rattle.std.proofs.Common.{◌≡◌, ◌+◌, ◌-◌, ◌*◌, sym, ap, ◌∙◌, arith}
+use Rattle.text_numerals.specs.{Decimal.fitting, Fields.numeral_of}
+use Rattle.text_numerals.proofs.ReadLaws.{numeral-fits, digits-all, digits-stop, digits_more, digits-over}
 use Rattle.text_numerals.proofs.digits_from.Goals as goal
 
-pub returns-then-line-at : goal.returns-then-line-at
+pub returns-in_default : goal.returns-in_default
 unfolding numeral_of
-returns-then-line-at c = let l = c.loop-left in
-    sym (l.invariant.1 ∙ ap fitting (digits-end _ _ _ _ c.if-line-at.true) ∙ numeral-fits _ _ l.invariant.0)
+returns-in_default c = let l = c.loop-at in
+    sym (l.invariant.same
+    ∙ ap fitting (digits-stop c.args.line.now l.at l.value (c.args.from + c.args.more - l.at) (omega arith) c.in_default.ensures)
+    ∙ numeral-fits _ _ l.invariant.small)
 
-pub returns-then-not-is_digit : goal.returns-then-not-is_digit
+pub returns-in_err-checked_mul : goal.returns-in_err-checked_mul
 unfolding numeral_of
-returns-then-not-is_digit c = let l = c.loop-left in
-    sym (l.invariant.1 ∙ ap fitting (digits-stop _ _ _ _ c.if-line-at.false
-    (read-failed c.is_digit.ensures (ap not c.if-not-is_digit.true))) ∙ numeral-fits _ _ l.invariant.0)
+returns-in_err-checked_mul c = let l = c.loop-at in
+    let more = digits_more c.args.line.now l.at l.value (c.args.from + c.args.more - l.at) (omega arith) (omega arith) c.in-Some.ensures.0 in
+    rw c.from_residual.ensures (sym (l.invariant.same ∙ ap fitting more
+    ∙ digits-over _ _ _ (omega (arith, c.in_err-checked_mul.ensures))))
 
-pub returns-then-w-number : goal.returns-then-w-number
+pub returns-in_err-value : goal.returns-in_err-value
 unfolding numeral_of
-returns-then-w-number c = let l = c.loop-left in
-    let w = c.worth-w.ensures.0 in
-    sym (l.invariant.1 ∙ ap fitting (digits_more _ _ _ _ (omega arith) c.if-line-at.false
-    (read_held c.is_digit.ensures (ap not c.if-not-is_digit.false)))
-    ∙ digits-over _ _ _ (omega (arith, w, c.worth-w.ensures.1, c.if-w-number.true)))
+returns-in_err-value c = let l = c.loop-at in let d = c.in-Some.ensures in
+    let more = digits_more c.args.line.now l.at l.value (c.args.from + c.args.more - l.at) (omega arith) (omega arith) d.0 in
+    rw c.from_residual-in_err-value.ensures (sym (l.invariant.same ∙ ap fitting more
+    ∙ digits-over _ _ _ (omega (arith, d.1.0, c.in_ok-checked_mul.ensures, c.in_err-value.ensures))))
 
-pub loop-left-preserved : goal.loop-left-preserved
-loop-left-preserved c = let l = c.loop-left in (
-  omega (arith, c.if-w-number.false, c.worth-w.ensures.1),
-  rw c.worth-w.ensures.0 (l.invariant.1
-      ∙ ap fitting (digits_more _ _ _ _ (omega arith) c.if-line-at.false
-      (read_held c.is_digit.ensures (ap not c.if-not-is_digit.false)))),
-)
+pub loop-at-preserved : goal.loop-at-preserved
+loop-at-preserved c = let l = c.loop-at in let d = c.in-Some.ensures in
+    let more = digits_more c.args.line.now l.at l.value (c.args.from + c.args.more - l.at) (omega arith) (omega arith) d.0 in
+    let left : c.args.from + c.args.more - (l.at + 1) ≡ c.args.from + c.args.more - l.at - 1 = omega arith in
+    let value : c.in_ok-value.value ≡ l.value * 10 + c.in-Some.d = omega (arith, c.in_ok-checked_mul.ensures, c.in_ok-value.ensures) in
+    record {
+      small = omega (arith, c.in_ok-value.ensures);
+      same = rw (left, value, d.1.0) (l.invariant.same ∙ ap fitting more);
+    }
 
 pub returns : goal.returns
 unfolding numeral_of
-returns c = let l = c.loop-left in
-    sym (l.invariant.1 ∙ ap fitting (digits-none _ _ _ (omega arith)) ∙ numeral-fits _ _ l.invariant.0)
+returns c = let l = c.loop-at in
+    sym (l.invariant.same ∙ ap fitting (digits-all c.args.line.now c.args.from c.args.more l.at l.value c.min-end.result
+    (omega arith) (omega arith) (omega arith) l.auto.at-end (omega arith) (omega arith)) ∙ numeral-fits _ _ l.invariant.small)

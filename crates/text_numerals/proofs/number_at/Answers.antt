@@ -1,21 +1,23 @@
 -- One digit, then those that follow.
-use mathlib.Core.Path.{sym, ◌∙◌}
-use borrow.Author.Rules.{rules}
-use Rattle.text_numerals.specs.{Decimal.worth, Fields.numeral_of}
-use Rattle.text_numerals.proofs.ReadLaws.{read-failed, read_held, number-end, number-other, number_digits}
-use mathlib.Core.Bool.{not}
-use mathlib.Core.Path.{ap}
+use Rattle.std.proofs.Common.{sym, ◌∙◌, arith}
+use Rattle.text_numerals.specs.{Fields.numeral_of}
+use Rattle.text_numerals.proofs.ReadLaws.{number-end, number-other, number_digits}
 use Rattle.text_numerals.proofs.number_at.Goals as goal
 
-pub returns-then-line-at : goal.returns-then-line-at
-returns-then-line-at c = unfold numeral_of in sym (number-end _ _ _ c.if-line-at.true)
-
-pub returns-then-not-is_digit : goal.returns-then-not-is_digit
+pub returns-in_err-get : goal.returns-in_err-get
 unfolding numeral_of
-returns-then-not-is_digit c = sym (number-other _ _ _ c.if-line-at.false
-    (read-failed c.is_digit.ensures (ap not c.if-not-is_digit.true)))
+returns-in_err-get c = let h = c.in_err-get.ensures.lookup in
+    rw c.from_residual.ensures (sym (number-end c.args.more c.args.line.now c.args.at (omega arith)))
+
+pub returns-in_err-first : goal.returns-in_err-first
+unfolding numeral_of
+returns-in_err-first c = let h = c.in_ok-get.ensures.lookup in
+    rw c.from_residual-in_err-first.ensures (sym (number-other c.args.more c.args.line.now c.args.at h.3.0
+    (rw (h.3.1 0) at c.in_err-first.ensures)))
+
+pub digits_from-requires : goal.digits_from-requires
+digits_from-requires c = c.in_ok-first.ensures.1.1
 
 pub returns : goal.returns
-returns c = c.digits_from.ensures ∙ sym (number_digits _ _ _ c.if-line-at.false
-    (read_held c.is_digit.ensures (ap not c.if-not-is_digit.false)) _
-    c.worth.ensures.0)
+returns c = let h = c.in_ok-get.ensures.lookup in let d = c.in_ok-first.ensures in
+    c.digits_from.ensures ∙ sym (number_digits _ _ _ h.3.0 (rw (h.3.1 0) at d.0) _ (rw (h.3.1 0) at d.1.0))

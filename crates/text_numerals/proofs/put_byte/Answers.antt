@@ -1,5 +1,4 @@
 -- `put_byte` meets its contract. Assumes nothing.
-use borrow.Author.Rules.{rules}
 use Rattle.text_numerals.proofs.PutLaws.{one}
 use Rattle.text_numerals.proofs.put_byte.Goals as goal
 

@@ -1,56 +1,30 @@
--- `put_pairs` meets its contract. The loop's invariant: the pairs of the first i bytes are put. Assumes nothing.
-use Prim.Native.Nat.{◌+◌, ◌-◌, ◌*◌, ◌≤◌, ◌<◌}
-use mathlib.Core.{Path.{◌≡◌, sym}, List.{[], ◌∷◌, ◌++◌}}
-use lib.{Seq.{take_all, length-take-le}, ListN.{length, take, length-append}}
-use native.Mathlib.Omega.{arith}
-use borrow.Author.Rules.{rules}
-use Rattle.text_numerals.specs.{Put.Put, Pairs.hex_pairs}
+-- The pair of one byte more is put.
+use Rattle.std.proofs.Common.{◌<◌, ◌+◌, ◌*◌, ◌≤◌, ◌∷◌, [], ◌++◌, arith, length, take, length-append}
+use Rattle.std.proofs.Math.Seq.{length-take-le}
+use Rattle.text_numerals.specs.Pairs.{hex_pairs}
 use Rattle.text_numerals.proofs.PutLaws.{then, nothing, length_pairs, pairs-more}
 use Rattle.text_numerals.proofs.put_pairs.Goals as goal
 
-pub loop-i-init : goal.loop-i-init
+pub loop-b-init : goal.loop-b-init
 unfolding hex_pairs
-loop-i-init c = (omega arith, (nothing c.args.out.now c.args.at, omega arith))
+loop-b-init c = record { put = nothing _ _; same_length = omega arith }
 
 pub put_byte-next-requires : goal.put_byte-next-requires
-put_byte-next-requires c = let bs = c.args.bytes.now in
-    let i = c.loop-i.i in omega (
-      arith,
-      c.loop-i.invariant.1.0.end,
-      length_pairs (take i bs),
-      length-take-le i bs c.loop-i.invariant.0,
-    )
+put_byte-next-requires c = let l = c.loop-b in let bs = c.args.bytes.now in
+    omega (arith, l.invariant.put.end, length_pairs (take l.b-index bs), length-take-le l.b-index bs l.auto.b-index-end)
 
-pub put_byte-next-requires-in-loop-i : goal.put_byte-next-requires-in-loop-i
-put_byte-next-requires-in-loop-i c = let bs =
-    c.args.bytes.now in
-    let i = c.loop-i.i in omega (
-      arith,
-      c.loop-i.invariant.1.0.end,
-      c.put_byte-next.ensures.end,
-      length_pairs (take i bs),
-      length-take-le i bs c.loop-i.invariant.0,
-    )
+pub put_byte-next-requires-in-loop-b : goal.put_byte-next-requires-in-loop-b
+put_byte-next-requires-in-loop-b c = let l = c.loop-b in let bs = c.args.bytes.now in
+    omega (arith, l.invariant.put.end, length_pairs (take l.b-index bs), length-take-le l.b-index bs l.auto.b-index-end)
 
-pub loop-i-preserved : goal.loop-i-preserved
-loop-i-preserved c = let l =
-    c.loop-i in
-    let bs = c.args.bytes.now in
+pub loop-b-preserved : goal.loop-b-preserved
+loop-b-preserved c = let l = c.loop-b in let bs = c.args.bytes.now in
     let fits : c.args.at + 2 * length bs ≤ length c.args.out.now = c.requires in
-    let h : l.i < length bs = c.loop-i-test.true in let n = length_pairs (take l.i bs) in let m = length-take-le l.i bs l.invariant.0 in
-    let s = hex_pairs (take l.i bs) in
-    let x = c.glyph.result in
-    let y = c.glyph-in-loop-i.result in let e = length-append s (x ∷ []) in
-    let first = then s (x ∷ []) (omega arith) l.invariant.1.0
-    c.put_byte-next.ensures in
-    let both = then (s ++ (x ∷ [])) (y ∷ []) (omega arith) first c.put_byte-next-in-loop-i.ensures in (
-      omega arith,
-      (
-        rw (
-          pairs-more bs l.i h,
-          ← c.glyph.ensures,
-          ← c.glyph-in-loop-i.ensures,
-        ) both,
-        omega arith,
-      ),
-    )
+    let h : l.b-index < length bs = c.loop-b-test.true in let n = length_pairs (take l.b-index bs) in
+    let m = length-take-le l.b-index bs l.auto.b-index-end in let s = hex_pairs (take l.b-index bs) in
+    let x = c.glyph.result in let y = c.glyph-in-loop-b.result in let e = length-append s (x ∷ []) in
+    let first = then s (x ∷ []) (omega arith) l.invariant.put c.put_byte-next.ensures in
+    let both = then (s ++ (x ∷ [])) (y ∷ []) (omega arith) first c.put_byte-next-in-loop-b.ensures in record {
+      put = rw (pairs-more bs l.b-index h, ← c.glyph.ensures, ← c.glyph-in-loop-b.ensures) both;
+      same_length = omega arith;
+    }

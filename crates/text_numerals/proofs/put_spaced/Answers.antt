@@ -1,7 +1,6 @@
 -- A space, then the number directly after it.
 use mathlib.Core.List.{[], ◌∷◌}
 use native.Mathlib.Omega.{arith}
-use borrow.Author.Rules.{rules}
 use Rattle.text_numerals.specs.Decimal.{number_text}
 use Rattle.text_numerals.proofs.PutLaws.{then, length-number}
 use Rattle.text_numerals.proofs.put_spaced.Goals as goal

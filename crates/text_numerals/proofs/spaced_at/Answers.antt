@@ -1,16 +1,19 @@
 -- One space, then the number.
-use mathlib.Core.Path.{sym, ◌∙◌}
-use borrow.Author.Rules.{rules}
+use Rattle.std.proofs.Common.{◌≡◌, sym, ◌∙◌, arith, get_or}
 use Rattle.text_numerals.specs.Fields.{numeral_of}
 use Rattle.text_numerals.proofs.ReadLaws.{spaced-end, spaced-other, spaced-number}
 use Rattle.text_numerals.proofs.spaced_at.Goals as goal
 
-pub returns-then-line-at : goal.returns-then-line-at
-returns-then-line-at c = unfold numeral_of in sym (spaced-end _ _ _ c.if-line-at.true)
+pub returns-in_err-get : goal.returns-in_err-get
+unfolding numeral_of
+returns-in_err-get c = let h = c.in_err-get.ensures.lookup in
+    rw c.from_residual.ensures (sym (spaced-end c.args.more c.args.line.now c.args.at (omega arith)))
 
-pub returns-then-line-at-ne32 : goal.returns-then-line-at-ne32
-returns-then-line-at-ne32 c = unfold numeral_of in sym (spaced-other _ _ _ c.if-line-at.false
-    c.if-line-at-ne32.true)
+pub returns-then-branch-ne32 : goal.returns-then-branch-ne32
+unfolding numeral_of
+returns-then-branch-ne32 c = let h = c.in_ok-get.ensures.lookup in
+    sym (spaced-other _ _ _ h.3.0 (λ (e : get_or c.args.line.now c.args.at 0 ≡ 32). c.if-branch-ne32.true (h.3.1 0 ∙ e)))
 
 pub returns : goal.returns
-returns c = c.number_at.ensures ∙ sym (spaced-number _ _ _ c.if-line-at.false c.if-line-at-ne32.false)
+returns c = let h = c.in_ok-get.ensures.lookup in
+    c.number_at.ensures ∙ sym (spaced-number _ _ _ h.3.0 (sym (h.3.1 0) ∙ c.if-branch-ne32.false))

@@ -2,20 +2,18 @@
 -- come at the start, and more waits only when the place in the piece has moved on. Assumes nothing.
 use mathlib.Core.{List.[], Path.◌≡◌}
 use lib.ListN.{length, take, drop}
-use native.Mathlib.Omega.{arith}
 use Prim.Native.Nat.{◌-◌, ◌*◌, ◌≤◌}
-use borrow.Author.Rules.{rules}
-use Rattle.spec.specs.Promises.{machine_of}
+use Rattle.store.specs.Kept.{machine_in}
 use Rattle.text_log.specs.Replay.{replaying}
-use Rattle.text_lines.{specs.Programs.{Passes, within}, proofs.Passing.{take_none, passes-nothing, passes_on}}
+use Rattle.text_lines.{specs.Programs.{Passes, within}}
 use Rattle.text_replay.specs.{Bounds.{AnswerIn, Rooms}, Turns.replay_state_in}
 use Rattle.text_replay_pieces.proofs.replay_piece.Given as goal
 
 abbrev pub invariant-loop-p : goal.invariant-loop-p
 invariant-loop-p l = (l.p.pending ≤ 8238) × (l.p.at ≤ length l.piece) × (l.initial.p.at ≤ l.p.at) × (l.p.waiting ≤ 131072 * (l.p.at - l.initial.p.at))
     × (l.p.waiting ≤ 131072) × AnswerIn l.p × (length l.line ≡ 8238) × Rooms l.bytes l.reader l.out × Passes replaying
-    (within (replay_state_in l.initial.p (machine_of l.initial.state l.initial.files l.initial.logs l.initial.marks l.initial.undo) l.initial.out) (take l.initial.p.pending l.initial.line)
-    (drop l.initial.p.at l.piece)) [] (within (replay_state_in l.p (machine_of l.state l.files l.logs l.marks l.undo) l.out) (take l.p.pending l.line)
+    (within (replay_state_in l.initial.p (machine_in l.initial.store) l.initial.out) (take l.initial.p.pending l.initial.line)
+    (drop l.initial.p.at l.piece)) [] (within (replay_state_in l.p (machine_in l.store) l.out) (take l.p.pending l.line)
     (drop l.p.at l.piece)) (take l.p.waiting l.out)
 
 abbrev pub decreases-loop-p : goal.decreases-loop-p

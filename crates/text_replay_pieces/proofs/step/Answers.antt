@@ -1,14 +1,12 @@
 -- `step` meets its contract. Assumes nothing.
-use mathlib.Core.Path.{ap}
+use mathlib.Core.Path.{ap, refl}
 use lib.ListN.{length, drop, drop_of_length-le}
 use native.Mathlib.Omega.{arith}
-use borrow.Author.Rules.{rules}
 use Prim.Native.Nat.{ℕ, ◌≤◌}
 use Rattle.buffers.specs.Parts.{cut}
 use Rattle.text_log.specs.Replay.{replaying}
 use Rattle.text_lines.proofs.Passing.{off, on, take_none, of_room, pending-passes, answer-passes}
 use Rattle.text_replay_pieces.proofs.Laws.{took-line}
-use mathlib.Core.Bool.{not}
 use Rattle.text_replay_pieces.proofs.step.Goals as goal
 
 pub returns-then-not-scan : goal.returns-then-not-scan
@@ -38,7 +36,7 @@ returns c = let took = c in
     let went = looked.next_line-scan.ensures.1 in let t = took.take_line.ensures in
     let yes = on looked.next_line-scan.result.complete tested.if-not-scan.false in let past = went.past yes in (
       answer-passes replaying _ _ _ _ _ _ _
-          (of_room replaying _ _ _ _ _ _ start.requires.1.0 looked.next_line-scan.ensures.0) yes _ cutting.part.ensures
+          (of_room replaying _ _ _ _ _ _ start.requires.1.0 looked.next_line-scan.ensures.0) yes _ refl
           _ _ (took-line _ _ _ _ _ t.1) _ _ (take_none _ _ t.0.pending) (ap (λ (n : ℕ). drop n piece) t.0.at),
       record {
         pending = omega (arith, t.0.pending);

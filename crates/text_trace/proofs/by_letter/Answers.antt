@@ -17,10 +17,10 @@ pub returns-in-80 : goal.returns-in-80
 returns-in-80 c = unfold lettered in rw c.in-80.is c.pointer_line.ensures
 
 pub returns-in-83 : goal.returns-in-83
-returns-in-83 c = unfold lettered in rw c.in-83.is c.seek_or_read_line.ensures
+returns-in-83 c = unfold lettered in rw c.in-83.is c.seek_line.ensures
 
 pub returns-in-82 : goal.returns-in-82
-returns-in-82 c = unfold lettered in rw c.in-82.is c.seek_or_read_line-in-82.ensures
+returns-in-82 c = unfold lettered in rw c.in-82.is c.read_line.ensures
 
 pub returns-in-87 : goal.returns-in-87
 returns-in-87 c = unfold lettered in rw c.in-87.is c.write_line.ensures

@@ -1,11 +1,10 @@
 -- One number, then the line's end.
+use Rattle.std.proofs.Common.{refl}
 use Rattle.text_trace.proofs.Laws.{after-missing, after-number}
 use Rattle.text_trace.proofs.pointer_line.Goals as goal
 
-pub returns-in_default : goal.returns-in_default
-returns-in_default c = after-missing _ _
-    _ _ c.spaced_at.ensures c.in_default.is
+pub returns-in_err-d : goal.returns-in_err-d
+returns-in_err-d c = rw c.from_residual.ensures (after-missing _ _ _ _ c.in_err-d.ensures refl)
 
 pub returns : goal.returns
-returns c = after-number _ _ _ _ c.spaced_at.ensures _ _ _ c.in-Number.is
-    c.whole_line.ensures
+returns c = after-number _ _ _ _ c.in_ok-d.ensures _ _ refl c.whole_line.ensures

@@ -3,7 +3,7 @@
 use mathlib.Core.{Path.{◌≡◌}}
 use lib.ListN.{length, take, drop}
 use Prim.Native.Nat.{◌-◌, ◌≤◌}
-use Rattle.spec.specs.Promises.{machine_of}
+use Rattle.store.specs.Kept.{machine_in}
 use Rattle.trace.specs.{Bounds.{TraceResting, TraceRoom}, Transcript.{store_trace, under}}
 use Rattle.text_lines.{specs.Programs.at_end}
 use Rattle.trace.proofs.take_piece.Given as goal
@@ -11,8 +11,8 @@ use Rattle.trace.proofs.take_piece.Given as goal
 abbrev pub invariant-loop-progress : goal.invariant-loop-progress
 invariant-loop-progress l =
     TraceResting l.progress × (l.progress.at ≤ length l.piece) × TraceRoom l.reader l.out × (length l.line ≡ 129) × (at_end store_trace
-    (under (machine_of l.initial.state l.initial.files l.initial.logs l.initial.marks l.initial.undo) l.initial.reader (take l.initial.progress.pending l.initial.line) l.piece) ≡ at_end store_trace
-    (under (machine_of l.state l.files l.logs l.marks l.undo) l.reader (take l.progress.pending l.line) (drop l.progress.at l.piece)))
+    (under (machine_in l.initial.store) l.initial.reader (take l.initial.progress.pending l.initial.line) l.piece) ≡ at_end store_trace
+    (under (machine_in l.store) l.reader (take l.progress.pending l.line) (drop l.progress.at l.piece)))
 
 abbrev pub decreases-loop-progress : goal.decreases-loop-progress
 decreases-loop-progress l = length l.piece - l.progress.at

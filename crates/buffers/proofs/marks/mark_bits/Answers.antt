@@ -6,7 +6,6 @@ use lib.{Bits.bit_or, ListN.{get_or, set}}
 use Rattle.limits.specs.Limits.{mark_octets}
 use Rattle.buffers.specs.Marks.{with_marks}
 use Rattle.buffers.proofs.MarkLaws.{with-marks-none, octet-marked}
-use borrow.Author.Rules.{rules}
 use Rattle.buffers.proofs.marks.mark_bits.Goals as goal
 
 pub returns-then-n-eq0 : goal.returns-then-n-eq0

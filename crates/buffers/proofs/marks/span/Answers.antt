@@ -2,10 +2,9 @@
 use mathlib.Core.Path.{ap₂}
 use Prim.Native.Nat.{ℕ, ◌+◌, ◌-◌, ◌^◌, ◌≤◌}
 use native.Mathlib.Omega.{arith}
-use lib.Pow.{pow_pos, pow_mono}
+use lib.Pow.{pow_mono}
 use Rattle.buffers.specs.Bits.{span}
 use Rattle.buffers.proofs.BitLaws.{shift_one}
-use borrow.Author.Rules.{rules}
 use Rattle.buffers.proofs.marks.span.Goals as goal
 
 pub overflow_sub-result : goal.overflow_sub-result

@@ -1,16 +1,15 @@
 -- `luzhanem_parts_line_given` meets its contract.
 use mathlib.Core.Path.{◌≡◌, sym, ap, ◌∙◌}
 use native.Mathlib.Omega.{arith}
-use borrow.Author.{Tests.{lt-ltb, le-ltb}, Rules.rules}
+use borrow.Author.{Tests.{lt-ltb, le-ltb}}
 use Rattle.limits.specs.Limits.{file_bytes}
 use Rattle.state.specs.Outcomes.{said}
 use Rattle.text_answers.specs.Printed.{spelled}
 use Rattle.text_log.specs.Answers.{answer_text}
-use lib.ListN.{length, take, length-take}
+use lib.ListN.{length, take}
 use Prim.Native.Nat.{ℕ, min}
 use Rattle.text_numerals.proofs.PutLaws.{take_within}
 use Rattle.c_lines.specs.Lines.{said_by, spelled_line, answer_line}
-use Rattle.c_lines.proofs.answers.luzhanem_parts_line_given.Statement.{statement}
 use Rattle.c_lines.proofs.answers.luzhanem_parts_line_given.Goals as goal
 
 pub returns-then-r-ge-RESULTS : goal.returns-then-r-ge-RESULTS
@@ -21,8 +20,8 @@ returns-then-r-ge-RESULTS c = rw (le-ltb c.args.r 32768 c.if-r-ge-RESULTS.true)
 pub returns : goal.returns
 unfolding said_by spelled_line answer_line answer_text spelled said
 returns c = let start = c in let bs = start.args.bytes.now in
-    let e : c.smaller-end.result ≡ min file_bytes (length bs) =
-    c.smaller-end.ensures in rw (
+    let e : c.min.result ≡ min file_bytes (length bs) =
+    omega (arith, c.min.ensures) in rw (
       lt-ltb start.args.r 32768 c.if-r-ge-RESULTS.false,
       sym (ap (λ (k : ℕ). take k bs) e ∙ take_within file_bytes bs),
     ) c.put_said.ensures

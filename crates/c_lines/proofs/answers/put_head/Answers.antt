@@ -2,7 +2,6 @@
 use mathlib.Core.List.{[], ◌∷◌}
 use native.Mathlib.Omega.{arith}
 use Rattle.text_numerals.proofs.PutLaws.{then}
-use borrow.Author.Rules.{rules}
 use Rattle.c_lines.proofs.answers.put_head.Goals as goal
 
 pub returns : goal.returns

@@ -4,7 +4,6 @@ use Rattle.state.specs.Outcomes.{pairs, said}
 use Rattle.text_log.{specs.Answers.answer_text, proofs.AnswerTexts.length-answer}
 use Rattle.c_lines.specs.Lines.{answer_line}
 use Rattle.c_lines.proofs.AnswerLaws.{headed}
-use borrow.Author.Rules.{rules}
 use Rattle.c_lines.proofs.answers.put_places.Goals as goal
 
 pub put_byte-requires : goal.put_byte-requires

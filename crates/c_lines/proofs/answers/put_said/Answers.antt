@@ -4,7 +4,6 @@ use Rattle.state.specs.Outcomes.{said}
 use Rattle.text_answers.{specs.Printed.spelled, proofs.Laws.length-spelled}
 use Rattle.c_lines.specs.Lines.{spelled_line}
 use Rattle.c_lines.proofs.AnswerLaws.{headed}
-use borrow.Author.Rules.{rules}
 use Rattle.c_lines.proofs.answers.put_said.Goals as goal
 
 pub put_byte-requires : goal.put_byte-requires

@@ -1,18 +1,17 @@
 -- `flat_scripts::counts_of` meets its contract.
 use mathlib.Core.{List.List, Path.{refl, sym, ap, ◌∙◌}}
-use lib.ListN.{set}
-use Prim.Native.Nat.{ℕ}
+use lib.ListN.{set, get_or}
+use Prim.Native.Nat.{ℕ, ◌+◌}
 use Rattle.state.proofs.Filled.{filled_none, filled-set}
 use native.Mathlib.Omega.{arith}
 use Rattle.c_scripts.proofs.flat_scripts.counts_of.Goals as goal
 
 pub loop-k-init : goal.loop-k-init
-loop-k-init c = (omega arith, refl, sym (filled_none _ _))
+loop-k-init c = (refl, sym (filled_none _ _))
 
 pub loop-k-preserved : goal.loop-k-preserved
 loop-k-preserved c = let l = c.loop-k in (
-  omega arith,
-  l.invariant.1,
-  ap (λ (xs : List ℕ). set xs l.k c.number_at.result) l.invariant.2
-      ∙ filled-set _ _ l.k c.number_at.result (omega arith) c.number_at.ensures,
+  l.invariant.0,
+  ap (λ (xs : List ℕ). set xs l.k (get_or c.args.flat.now (512 + l.k) 0)) l.invariant.1
+      ∙ filled-set _ _ l.k (get_or c.args.flat.now (512 + l.k) 0) (omega arith) refl,
 )

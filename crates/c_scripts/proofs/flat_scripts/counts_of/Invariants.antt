@@ -6,7 +6,4 @@ use Rattle.state.proofs.Filled.{filled}
 use Rattle.c_scripts.proofs.flat_scripts.counts_of.Given as goal
 
 abbrev pub invariant-loop-k : goal.invariant-loop-k
-invariant-loop-k l = (l.k ≤ 8) × (length l.initial.all ≡ 8) × (l.all ≡ filled (λ i. get_or l.flat (512 + i) 0) l.initial.all l.k)
-
-abbrev pub decreases-loop-k : goal.decreases-loop-k
-decreases-loop-k l = 8 - l.k
+invariant-loop-k l = (length l.initial.all ≡ 8) × (l.all ≡ filled (λ i. get_or l.flat (512 + i) 0) l.initial.all l.k)

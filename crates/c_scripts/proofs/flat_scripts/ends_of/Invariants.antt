@@ -8,7 +8,4 @@ use Rattle.c_scripts.specs.FlatScripts.{end_code}
 use Rattle.c_scripts.proofs.flat_scripts.ends_of.Given as goal
 
 abbrev pub invariant-loop-k : goal.invariant-loop-k
-invariant-loop-k l = (l.k ≤ 8) × (length l.initial.all ≡ 8) × (l.all ≡ filled (λ i. end_code (end_at l.ends i)) l.initial.all l.k)
-
-abbrev pub decreases-loop-k : goal.decreases-loop-k
-decreases-loop-k l = 8 - l.k
+invariant-loop-k l = (length l.initial.all ≡ 8) × (l.all ≡ filled (λ i. end_code (end_at l.ends i)) l.initial.all l.k)

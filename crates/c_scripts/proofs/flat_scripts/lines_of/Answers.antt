@@ -7,12 +7,11 @@ use native.Mathlib.Omega.{arith}
 use Rattle.c_scripts.proofs.flat_scripts.lines_of.Goals as goal
 
 pub loop-j-init : goal.loop-j-init
-loop-j-init c = (omega arith, refl, sym (filled_none _ _))
+loop-j-init c = (refl, sym (filled_none _ _))
 
 pub loop-j-preserved : goal.loop-j-preserved
 loop-j-preserved c = let l = c.loop-j in (
-  omega arith,
-  l.invariant.1,
-  ap (λ (xs : List ScriptLine). set xs l.j c.line_at-line.result) l.invariant.2
+  l.invariant.0,
+  ap (λ (xs : List ScriptLine). set xs l.j c.line_at-line.result) l.invariant.1
       ∙ filled-set _ _ l.j c.line_at-line.result (omega arith) c.line_at-line.ensures,
 )

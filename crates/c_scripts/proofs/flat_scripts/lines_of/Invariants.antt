@@ -7,7 +7,4 @@ use Rattle.c_scripts.specs.FlatScripts.{line_from}
 use Rattle.c_scripts.proofs.flat_scripts.lines_of.Given as goal
 
 abbrev pub invariant-loop-j : goal.invariant-loop-j
-invariant-loop-j l = (l.j ≤ 128) × (length l.initial.all ≡ 128) × (l.all ≡ filled (line_from l.flat) l.initial.all l.j)
-
-abbrev pub decreases-loop-j : goal.decreases-loop-j
-decreases-loop-j l = 128 - l.j
+invariant-loop-j l = (length l.initial.all ≡ 128) × (l.all ≡ filled (line_from l.flat) l.initial.all l.j)

@@ -1,77 +1,53 @@
 -- `call_lifecycle::begin` meets its contract.
-use borrow.Author.Rules.{rules}
+use Rattle.std.proofs.lemmas.Result.{err_from_is_err_and}
 use native.Mathlib.Omega.{arith}
-use mathlib.Core.{Bool.true, List.[], Path.{◌≡◌, sym, ap, ◌∙◌}}
+use mathlib.Core.{Bool.{true, not}, List.[], Path.{ap}}
 use Prim.Native.Nat.{ℕ}
-use Rattle.state.specs.declared.{outcomes.Refusal.TheVariants.AlreadyOpen, Transaction.Transaction}
-use Rattle.state.{specs.StoreMeaning.{begun, transaction}, proofs.LayoutLaws.transaction-of}
+use Rattle.state.specs.{declared.outcomes.Refusal.TheVariants.AlreadyOpen, StoreMeaning.begun}
 use Rattle.admission.specs.Admission.{admission_of_begin}
 use Rattle.spec.specs.{Machine.Machine, Calls.{call, passing, begin_turn}, Promises.machine_of}
-use Rattle.refinement.proofs.TurnLaws.{LetThrough, shared_with, gate-refused, gate-passed, gate-let-through, begin-of-open}
-use Rattle.refinement.proofs.TurnLaws.{begin-of-closed, passing-on, turned-follows}
+use Rattle.refinement.proofs.TurnLaws.{Passed, gate-refused, gate-passes, is_open, is-closed, begin-of-open, begin-of-closed}
+use Rattle.refinement.proofs.TurnLaws.{passing-on, turned-follows}
 use Rattle.call_lifecycle.proofs.ResetRules.{reset-follows}
+use Rattle.call_lifecycle.proofs.begin_call.begin.Goals.{In_ok-admit}
 use Rattle.call_lifecycle.proofs.begin_call.begin.Goals as goal
 
-pub returns-in-Refused : goal.returns-in-Refused
+-- What tests 1 to 3 tell, once they are passed.
+module _ (c : In_ok-admit) where
+  abbrev machine : Machine
+  machine = machine_of c.args.state.now c.args.files.now c.args.logs.now c.args.marks.now c.args.undo.now
+
+  passed : Passed machine c.args.t
+  passed = gate-passes _ machine c.args.t (rw c.of.ensures at c.admit.ensures) c.in_ok-admit.was
+
+pub returns-in_err-admit : goal.returns-in_err-admit
 unfolding call admission_of_begin
-returns-in-Refused c =
-    let machine : Machine = machine_of c.args.state.now c.args.files.now c.args.logs.now c.args.marks.now c.args.undo.now in
-    let start = c in
-    let m = machine in
-    let e = gate-refused _ m start.args.t c.admit-gate.ensures.gate _ _ []
-    (begin_turn start.args.t m) c.in-Refused.is in turned-follows _ [] _ _ _ _ _ _ e
+returns-in_err-admit c =
+    let p = err_from_is_err_and c.from_residual.result c.from_residual.ensures.1 in rw (p.1, p.2) (let a = c.args in
+    let m : Machine = machine_of a.state.now a.files.now a.logs.now a.marks.now a.undo.now in
+    turned-follows _ [] _ _ _ _ _ _
+    (gate-refused _ m a.t (rw c.of.ensures at c.admit.ensures) _ _ [] (begin_turn a.t m) c.in_err-admit.was))
 
 pub is_begun-requires : goal.is_begun-requires
-is_begun-requires c =
-    let machine : Machine = machine_of c.args.state.now c.args.files.now c.args.logs.now c.args.marks.now c.args.undo.now in
-    let let_through : LetThrough machine c.args.t = gate-let-through _ machine c.args.t c.admit-gate.ensures.gate
-    c.in_default.is in
-    let_through.small
+is_begun-requires c = (passed (goal.at.is_begun-requires c).In_ok-admit).through.small
 
 pub returns-then-is_begun : goal.returns-then-is_begun
 unfolding call passing
-returns-then-is_begun c =
-    let machine : Machine = machine_of c.args.state.now c.args.files.now c.args.logs.now c.args.marks.now c.args.undo.now in
-    let passed : shared_with machine c.args.t 0 ≡ 0 = gate-passed _ machine c.args.t c.admit-gate.ensures.gate
-    c.in_default.is in
-    let let_through : LetThrough machine c.args.t = gate-let-through _ machine c.args.t c.admit-gate.ensures.gate
-    c.in_default.is in
-    let is-begun : let start = c in (transaction machine.store start.args.t).begun ≡ c.is_begun.result = let told = c in let a = told.args in
-    ap (λ (x : Transaction). x.begun) (transaction-of a.state.now a.t let_through.small)
-    ∙ sym c.is_begun.ensures in
-    let told = c in let t = told.args.t in let m = machine in
-    turned-follows AlreadyOpen [] _ _ _ _ _ _ (ap (λ (n : ℕ). passing n [] m (begin_turn t m))
-    (begin-of-open m t passed (is-begun ∙ c.if-is_begun.true)))
+returns-then-is_begun c = let s = (goal.at.returns-then-is_begun c).In_ok-admit in let p = passed s in let a = c.args in
+    let begun = is_open a.state.now a.t p.through.small c.is_begun.ensures (ap not c.if-is_begun.true) in
+    turned-follows AlreadyOpen [] _ _ _ _ _ _ (ap (λ (n : ℕ). passing n [] (machine s) (begin_turn a.t (machine s)))
+    (begin-of-open (machine s) a.t p.tests begun))
 
 pub unmark-requires : goal.unmark-requires
-unmark-requires c =
-    let machine : Machine = machine_of c.args.state.now c.args.files.now c.args.logs.now c.args.marks.now c.args.undo.now in
-    let let_through : LetThrough machine c.args.t = gate-let-through _ machine c.args.t c.admit-gate.ensures.gate
-    c.in_default.is in
-    let told = c in
-    (omega (arith, let_through.small), let_through.lengths.marks)
+unmark-requires c = let p = passed (goal.at.unmark-requires c).In_ok-admit in
+    (omega (arith, p.through.small), p.through.lengths.marks)
 
 pub reset-requires : goal.reset-requires
-reset-requires c =
-    let machine : Machine = machine_of c.args.state.now c.args.files.now c.args.logs.now c.args.marks.now c.args.undo.now in
-    let let_through : LetThrough machine c.args.t = gate-let-through _ machine c.args.t c.admit-gate.ensures.gate
-    c.in_default.is in
-    let_through.small
+reset-requires c = (passed (goal.at.reset-requires c).In_ok-admit).through.small
 
 pub returns : goal.returns
 unfolding call begin_turn begun
-returns c =
-    let machine : Machine = machine_of c.args.state.now c.args.files.now c.args.logs.now c.args.marks.now c.args.undo.now in
-    let passed : shared_with machine c.args.t 0 ≡ 0 = gate-passed _ machine c.args.t c.admit-gate.ensures.gate
-    c.in_default.is in
-    let let_through : LetThrough machine c.args.t = gate-let-through _ machine c.args.t c.admit-gate.ensures.gate
-    c.in_default.is in
-    let is-begun : let start = c in (transaction machine.store start.args.t).begun ≡ c.is_begun.result = let told = c in let a = told.args in
-    ap (λ (x : Transaction). x.begun) (transaction-of a.state.now a.t let_through.small)
-    ∙ sym c.is_begun.ensures in
-    let closed = c in let told = closed in
-    let t = told.args.t in let m = machine in
-    let e =
-    passing-on _ [] m (begin_turn t m) (begin-of-closed m t passed (is-begun ∙ closed.if-is_begun.false)) in
-    reset-follows t true _ _ _ _ _ told.admit-gate.ensures.long let_through.small _ e _ _
-    c.reset.ensures c.unmark.ensures
+returns c = let s = (goal.at.returns c).In_ok-admit in let p = passed s in let a = c.args in
+    let closed = is-closed a.state.now a.t p.through.small c.is_begun.ensures (ap not c.if-is_begun.false) in
+    let e = passing-on _ [] (machine s) (begin_turn a.t (machine s)) (begin-of-closed (machine s) a.t p.tests closed) in
+    reset-follows a.t true _ _ _ _ _ c.told-state p.through.small _ e _ _ c.reset.ensures c.unmark.ensures

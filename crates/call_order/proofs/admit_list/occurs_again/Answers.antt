@@ -1,20 +1,16 @@
--- `call_order::admit_list::occurs_again` meets its contract. The loop's invariant: the rest of the list is left to search.
+-- `call_order::admit_list::occurs_again` meets its contract.
 use mathlib.Core.Path.{◌≡◌, sym, ap, ◌∙◌}
-use borrow.Author.{Rules.rules, Tests.{eq-eqb, ne_eqb}}
-use lib.ListN.{length, get_or, drop}
+use lib.{Dec.eqb, ListN.{length, get_or, take, drop, length-drop}, Seq.take_all}
 use native.Mathlib.{Numerals.add-one, Omega.arith}
-use Prim.Native.Nat.{ℕ, suc, ◌-◌, ◌≤◌}
+use Prim.Native.Nat.{ℕ, ◌+◌, ◌-◌}
+use Rattle.std.specs.List.{list_any}
 use Rattle.spec_orders.specs.Orders.{is_in}
-use Rattle.call_order.proofs.ListLaws.{in-found, in-passed, in-empty}
+use Rattle.call_order.proofs.ListLaws.{in-std}
 use Rattle.call_order.proofs.admit_list.occurs_again.Goals as goal
 
-pub returns-then-t-list : goal.returns-then-t-list
-returns-then-t-list c = let at-loop = c in
-    sym (at-loop.loop-j.invariant.1 ∙ in-found _ _ at-loop.loop-j.j (omega arith) (eq-eqb _ _ c.if-t-list.true))
-
-pub loop-j-preserved : goal.loop-j-preserved
-loop-j-preserved c = let at-loop = c in
-    (omega arith, at-loop.loop-j.invariant.1 ∙ in-passed _ _ at-loop.loop-j.j (omega arith) (ne_eqb _ _ c.if-t-list.false))
-
 pub returns : goal.returns
-returns c = sym (c.loop-j.invariant.1 ∙ in-empty _ _ c.loop-j.j (omega arith))
+returns c = let ts = c.args.list.now in let k = c.args.k in let t = get_or ts k 0 in
+    let found : c.contains.result ≡ list_any (λ u. eqb u t) (take (length ts - (k + 1)) (drop (k + 1) ts)) =
+    c.contains.ensures.value in
+    found ∙ ap (list_any (λ u. eqb u t)) (take_all (length ts - (k + 1)) (drop (k + 1) ts) (omega (arith, length-drop (k + 1) ts)))
+    ∙ sym (in-std t (drop (k + 1) ts)) ∙ ap (λ (n : ℕ). is_in t (drop n ts)) (add-one k)

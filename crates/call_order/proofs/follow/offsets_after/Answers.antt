@@ -1,9 +1,9 @@
--- `call_order::follow::offsets_after` meets its contract. The loop's invariant: the offsets of the descriptors passed are set.
-use mathlib.Core.{Bool.{Bool, true, false, cond, ◌&&◌}, List.List, Logic.⊎_elim, Path.{◌≡◌, sym, ap, ◌∙◌}}
+-- `call_order::follow::offsets_after` meets its contract.
+use mathlib.Core.{Bool.{Bool, true, false, cond, ◌&&◌}, List.List, Path.{◌≡◌, sym, ap, ◌∙◌}}
 use borrow.Author.{Rules.rules, Tests.leb-true}
 use lib.ListN.{length, get_or, set}
 use native.Mathlib.Omega.{arith}
-use Prim.Native.Nat.{ℕ, ◌+◌, ◌-◌, ◌≤◌, ◌<◌}
+use Prim.Native.Nat.{ℕ, ◌+◌, ◌≤◌, ◌<◌}
 use Rattle.limits.specs.Limits.{file_bytes, descriptor_count}
 use Rattle.standings.specs.Table.{advance, is_touched, final_offset}
 use Rattle.state.{specs.declared.Descriptor.Descriptor, proofs.LayoutLaws.descriptor-of}
@@ -28,7 +28,7 @@ fits-there : (x : Txn) (offsets : List ℕ) (d : ℕ) → fits_at x offsets ≡ 
 fits-there x offsets d e l = unfold fits_at in leb-true _ file_bytes (below_at _ 16 d e l)
 
 pub loop-d-init : goal.loop-d-init
-loop-d-init c = let long : length c.args.offsets ≡ 16 = search rules in (omega arith, sym (filled_none _ c.args.offsets), long)
+loop-d-init c = let long : length c.args.offsets ≡ 16 = search rules in (sym (filled_none _ c.args.offsets), long)
 
 pub final_offset-requires : goal.final_offset-requires
 final_offset-requires c =
@@ -50,19 +50,18 @@ loop-d-preserved c =
     (c.descriptor_at-descriptor.ensures ∙ sym (descriptor-of a.state.now a.t c.loop-d.d (omega arith)))) in
     let read = c in let l = read.loop-d in let a = read.args in
     let x = descriptors_in a.state.now a.t in (
-      omega arith,
       elim c.if-sets_offset.branch [
-        | then-sets_offset w ↦ w.after-is ∙ ap (λ (xs : List ℕ). set xs l.d w.final_offset.result) l.invariant.1 ∙ filled-set
+        | then-sets_offset w ↦ w.after-is ∙ ap (λ (xs : List ℕ). set xs l.d w.final_offset.result) l.invariant.0 ∙ filled-set
             (offset-after x a.offsets) a.offsets l.d w.final_offset.result (omega arith) (set_so x a.offsets l.d w.final_offset.result
             (sets-is ∙ w.if-sets_offset.true) (w.final_offset.ensures ∙ ap (final_offset (get_or a.offsets l.d 0)) standing-is))
-        | else-sets_offset w ↦ w.after-is ∙ l.invariant.1 ∙ filled-preserved (offset-after x a.offsets) a.offsets l.d 0 (omega arith)
+        | else-sets_offset w ↦ w.after-is ∙ l.invariant.0 ∙ filled-preserved (offset-after x a.offsets) a.offsets l.d 0 (omega arith)
             (left_so x a.offsets l.d (sets-is ∙ w.if-sets_offset.false))
       ],
-      l.invariant.2,
+      l.invariant.1,
     )
 
 pub returns : goal.returns
 unfolding offsets_after
 returns c = let l = c.loop-d in let a = c.args in
     let f = offset-after (descriptors_in a.state.now a.t) a.offsets in let e : l.d ≡ 16 = omega arith in
-    l.invariant.1 ∙ ap (filled f a.offsets) e ∙ filled-all f a.offsets 16 (omega (arith, l.invariant.2))
+    l.invariant.0 ∙ ap (filled f a.offsets) e ∙ filled-all f a.offsets 16 (omega (arith, l.invariant.1))

@@ -1,68 +1,35 @@
--- `call_order::permutation::order_at` meets its contract. The loop's invariant: the first k numbers of the order are found, and
--- the others are order number `left` of those that rest; after its first n numbers the array is as at first.
-use mathlib.Core.{List.◌++◌, Path.{◌≡◌, refl, sym, ap, ◌∙◌, subst}}
-use borrow.Author.Rules.{rules}
-use lib.{ListN.{length, get_or, set, take, drop, length-set}, Seq.drop-set-lt}
+-- `call_order::permutation::order_at` meets its contract.
+use mathlib.Core.{List.◌++◌, Path.{◌≡◌, sym, ap, ◌∙◌, subst}}
+use lib.{ListN.{length, get_or, set, take, length-set}, Seq.{drop-set-lt}}
 use native.Mathlib.{Nat.mod-lt, Omega.arith}
-use Prim.Native.Nat.{ℕ, suc, ◌+◌, ◌-◌, ◌/◌, ◌%◌, ◌≤◌, ◌<◌}
-use Rattle.spec_orders.{specs.{Orders.factorial, Numbering.order_at}, proofs.Numbered.{positive, quotient}}
-use Rattle.call_order.proofs.ArrangeLaws.{drop-zeros, order-more, order-none}
+use Prim.Native.Nat.{ℕ, suc, ◌+◌, ◌-◌, ◌/◌, ◌%◌, ◌<◌}
+use Rattle.spec_orders.specs.{Orders.{factorial, without}, Numbering.order_at}
+use Rattle.call_order.proofs.ArrangeLaws.{drop-zeros, next-position, order-more, order-none, removed_is}
 use Rattle.call_order.proofs.permutation.order_at.Goals as goal
 
 pub nonzero_div-q : goal.nonzero_div-q
-nonzero_div-q c =
-    let after : ℕ = c.args.n - c.loop-k.k - 1 in
-    let some : 0 < c.factorial-f.result = subst (λ (f : ℕ). 0 < f) (sym c.factorial-f.ensures) (positive after) in
-    let s = some in omega arith
-
-pub bounds-rest-q : goal.bounds-rest-q
-bounds-rest-q c =
-    let after : ℕ = c.args.n - c.loop-k.k - 1 in
-    let one_less : c.args.n - c.loop-k.k ≡ suc after = omega arith in
-    let position : c.loop-k.left / c.factorial-f.result < suc after = let l = c.loop-k in let m = after in
-    subst (λ (f : ℕ). l.left / f < suc m) (sym c.factorial-f.ensures)
-    (quotient m l.left (subst (λ (x : ℕ). l.left < factorial x) one_less l.invariant.1)) in
-    omega (arith, position, c.requires.0)
-
-pub removed-rest-requires : goal.removed-rest-requires
-removed-rest-requires c =
-    let after : ℕ = c.args.n - c.loop-k.k - 1 in
-    let one_less : c.args.n - c.loop-k.k ≡ suc after = omega arith in
-    let position : c.loop-k.left / c.factorial-f.result < suc after = let l = c.loop-k in let m = after in
-    subst (λ (f : ℕ). l.left / f < suc m) (sym c.factorial-f.ensures)
-    (quotient m l.left (subst (λ (x : ℕ). l.left < factorial x) one_less l.invariant.1)) in
-    (omega (arith, c.requires.0), omega (arith, position))
-
-pub nonzero_rem-left : goal.nonzero_rem-left
-nonzero_rem-left c =
-    let after : ℕ = c.args.n - c.loop-k.k - 1 in
-    let some : 0 < c.factorial-f.result = subst (λ (f : ℕ). 0 < f) (sym c.factorial-f.ensures) (positive after) in
-    let s = some in omega arith
+nonzero_div-q c = (next-position _ _ _ _ c.factorial-f.ensures c.loop-k-test.true c.loop-k.invariant.0).0
 
 pub loop-k-preserved : goal.loop-k-preserved
-loop-k-preserved c =
-    let after : ℕ = c.args.n - c.loop-k.k - 1 in
-    let one_less : c.args.n - c.loop-k.k ≡ suc after = omega arith in
-    let position : c.loop-k.left / c.factorial-f.result < suc after = let l = c.loop-k in let m = after in
-    subst (λ (f : ℕ). l.left / f < suc m) (sym c.factorial-f.ensures)
-    (quotient m l.left (subst (λ (x : ℕ). l.left < factorial x) one_less l.invariant.1)) in
-    let some : 0 < c.factorial-f.result = subst (λ (f : ℕ). 0 < f) (sym c.factorial-f.ensures) (positive after) in
-    let at_f = c in let l = at_f.loop-k in let a = at_f.args in
-    let m = after in let f = at_f.factorial-f.result in let e : a.n - (l.k + 1) ≡ m = omega arith in (
-      omega arith,
-      subst (λ (x : ℕ). l.left % f < x) (at_f.factorial-f.ensures ∙ ap factorial (sym e)) (mod-lt l.left some),
-      length-set l.order l.k (get_or l.rest (l.left / f) 0) ∙ l.invariant.2,
-      ap (λ (x : ℕ). take (l.k + 1) (set l.order l.k (get_or l.rest (l.left / f) 0)) ++ order_at x (l.left % f)
-          (take x c.removed-rest.result)) e ∙ order-more l.order l.rest c.removed-rest.result l.k m l.left f
-          (omega arith) at_f.factorial-f.ensures c.removed-rest.ensures position ∙ ap (λ (x : ℕ). take l.k
-          l.order ++ order_at x l.left (take x l.rest)) (sym one_less) ∙ l.invariant.3,
-      drop-set-lt a.n l.order l.k (get_or l.rest (l.left / f) 0) (omega arith) ∙ l.invariant.4,
+loop-k-preserved c = let l = c.loop-k in let n = length c.args.list.numbers.now in let m : ℕ = n - l.k - 1 in
+    let f = c.factorial-f.result in let q = l.left / f in
+    let next : (0 < f) × (q < n - l.k) = next-position _ _ _ _ c.factorial-f.ensures c.loop-k-test.true c.loop-k.invariant.0 in
+    let one_less : n - l.k ≡ suc m = omega arith in let e : n - (l.k + 1) ≡ m = omega arith in
+    let after : take m c.copy_within.new.self ≡ without q (take (suc m) l.rest) =
+    ap (take m) c.copy_within.ensures.after ∙ removed_is q m _ l.rest (omega (arith, next)) (omega arith) (omega arith) in (
+      subst (λ (x : ℕ). l.left % f < x) (c.factorial-f.ensures ∙ ap factorial (sym e)) (mod-lt l.left next.0),
+      length-set l.order l.k (get_or l.rest q 0) ∙ l.invariant.1,
+      ap (λ (x : ℕ). take (l.k + 1) (set l.order l.k (get_or l.rest q 0)) ++ order_at x (l.left % f)
+          (take x c.copy_within.new.self)) e ∙ order-more l.order l.rest c.copy_within.new.self l.k m l.left f
+          (omega arith) c.factorial-f.ensures after (omega (arith, next)) ∙ ap (λ (x : ℕ). take l.k
+          l.order ++ order_at x l.left (take x l.rest)) (sym one_less) ∙ l.invariant.2,
+      drop-set-lt n l.order l.k (get_or l.rest q 0) (omega arith) ∙ l.invariant.3,
     )
 
 pub returns : goal.returns
-returns c = let l = c.loop-k in let a = c.args in let e : l.k ≡ a.n = omega arith in
-    let z : a.n - l.k ≡ 0 = omega arith in (
+returns c = let l = c.loop-k in let n = length c.args.list.numbers.now in let e : l.k ≡ n = omega arith in
+    let z : n - l.k ≡ 0 = omega arith in (
       ap (λ (x : ℕ). take x l.order) (sym e) ∙ sym (order-none (take l.k l.order) (take 0 l.rest) l.left)
-          ∙ ap (λ (x : ℕ). take l.k l.order ++ order_at x l.left (take x l.rest)) (sym z) ∙ l.invariant.3,
-      l.invariant.4 ∙ drop-zeros a.n 8,
+          ∙ ap (λ (x : ℕ). take l.k l.order ++ order_at x l.left (take x l.rest)) (sym z) ∙ l.invariant.2,
+      l.invariant.3 ∙ drop-zeros n 8,
     )

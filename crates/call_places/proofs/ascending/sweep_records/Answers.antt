@@ -10,19 +10,17 @@ use Rattle.call_places.proofs.ascending.sweep_records.Goals as goal
 
 pub loop-k-init : goal.loop-k-init
 loop-k-init c = let a = c.args in
-    (omega arith, c.unswept-s.ensures ∙ swept_none (recorded_in a.state.now) a.t a.f)
+    c.unswept-s.ensures ∙ swept_none (recorded_in a.records.now.state.now) a.records.now.t a.f
 
 pub sweep_record-s-requires : goal.sweep_record-s-requires
-sweep_record-s-requires c = let l = c.loop-k in let few = swept-few (recorded_in c.args.state.now) c.args.t c.args.f l.k in (
-  rw c.record_at-w.ensures (c.requires.descriptors l.k (omega arith)),
-  omega (arith, ap (λ (r : Sweep). r.intervals) l.invariant.1, few, l.invariant.0, c.requires.records),
+sweep_record-s-requires c = let l = c.loop-k in let few = swept-few (recorded_in c.args.records.now.state.now) c.args.records.now.t c.args.f l.k in (
+  rw c.get-w.ensures (c.args.records.now.counted.descriptors l.k (omega arith)),
+  omega (arith, ap (λ (r : Sweep). r.intervals) l.invariant, few, c.args.records.now.counted.records),
 )
 
 pub loop-k-preserved : goal.loop-k-preserved
 loop-k-preserved c = let a = c.args in
-    let l = c.loop-k in (
-      omega arith,
-      c.sweep_record-s.ensures
-          ∙ ap₂ (λ (r : Sweep) (w : WriteRecord). swept_record (store_of a.state.now).filenumbers a.f r w)
-          l.invariant.1 c.record_at-w.ensures ∙ swept-more (recorded_in a.state.now) a.t a.f l.k,
-    )
+    let l = c.loop-k in
+    c.sweep_record-s.ensures
+    ∙ ap₂ (λ (r : Sweep) (w : WriteRecord). swept_record (store_of a.records.now.state.now).filenumbers a.f r w)
+    l.invariant c.get-w.ensures ∙ swept-more (recorded_in a.records.now.state.now) a.records.now.t a.f l.k

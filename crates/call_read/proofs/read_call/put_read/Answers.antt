@@ -21,7 +21,7 @@ returns-then-extent-n c =
     c.after_read-standing.ensures ∙ ap (after_read _) c.standing_at-z.ensures in
     moved-short _ _ _ _ _ c.requires _ goes _ c.put_descriptor.ensures c.if-extent-n.true _ _
     c.lengthmarks_at-sighted.ensures (c.added.ensures ∙ ap (λ (f : ℕ). with_bit f c.lengthmarks_at-sighted.result)
-    c.wide.ensures.0) _ c.put_lengthmarks.ensures
+    c.from.ensures) _ c.put_lengthmarks.ensures
 
 pub returns-else-extent-n : goal.returns-else-extent-n
 returns-else-extent-n c =

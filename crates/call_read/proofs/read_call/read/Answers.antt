@@ -1,4 +1,5 @@
 -- `call_read::read` meets its contract.
+use Rattle.std.proofs.lemmas.Result.{err_from_is_err_and}
 use native.Mathlib.Omega.{arith}
 use mathlib.Core.{Bool.not, Path.{ap}}
 use lib.ListN.{length}
@@ -11,81 +12,82 @@ use Rattle.call_read.proofs.ReadTests.{ReadAdmitted, tests-admit, tests-refuse, 
 use Rattle.call_read.proofs.ReadRules.{read-refused, past-follows, handed-on, read-follows}
 use Rattle.call_read.proofs.read_call.read.Goals as goal
 
-pub returns-in-Refused : goal.returns-in-Refused
+pub returns-in_err-admit : goal.returns-in_err-admit
 unfolding call admitted admission buffer_of
-returns-in-Refused c =
+returns-in_err-admit c =
+    let p = err_from_is_err_and c.from_residual.result c.from_residual.ensures.1 in rw (p.1, p.2) (
     let a = c.args in let m : Machine = machine_of a.state.now a.files.now a.logs.now a.marks.now a.undo.now in
     let o = Op.read a.d a.n a.reader.now in
-    turned-follows _ (buffer_of o) _ _ _ _ _ _ (gate-refused _ m a.t c.admit-gate.ensures.gate _ _ (buffer_of o)
-    (step_turn a.t o m) c.in-Refused.is)
+    turned-follows _ (buffer_of o) _ _ _ _ _ _ (gate-refused _ m a.t (rw c.of.ensures at c.admit.ensures) _ _ (buffer_of o)
+    (step_turn a.t o m) c.in_err-admit.was))
 
 pub is_begun-requires : goal.is_begun-requires
 is_begun-requires c =
     let a = c.args in let m : Machine = machine_of a.state.now a.files.now a.logs.now a.marks.now a.undo.now in
-    let through : LetThrough m a.t = gate-let-through _ m a.t c.admit-gate.ensures.gate c.in_default.is in through.small
+    let through : LetThrough m a.t = gate-let-through _ m a.t (rw c.of.ensures at c.admit.ensures) c.in_ok-admit.was in through.small
 
 pub returns-then-not-is_begun : goal.returns-then-not-is_begun
 unfolding call buffer_of
 returns-then-not-is_begun c =
     let a = c.args in let m : Machine = machine_of a.state.now a.files.now a.logs.now a.marks.now a.undo.now in
     let o = Op.read a.d a.n a.reader.now in
-    let passed = gate-passed _ m a.t c.admit-gate.ensures.gate c.in_default.is in
-    let through : LetThrough m a.t = gate-let-through _ m a.t c.admit-gate.ensures.gate c.in_default.is in
+    let passed = gate-passed _ m a.t (rw c.of.ensures at c.admit.ensures) c.in_ok-admit.was in
+    let through : LetThrough m a.t = gate-let-through _ m a.t (rw c.of.ensures at c.admit.ensures) c.in_ok-admit.was in
     let closed = is-closed a.state.now a.t through.small c.is_begun.ensures (ap not c.if-not-is_begun.true) in
     turned-follows NotOpen (buffer_of o) _ _ _ _ _ _ (admitted-closed m a.t passed closed (buffer_of o) (step_turn a.t o m))
 
 pub is_stale-requires : goal.is_stale-requires
 is_stale-requires c =
     let a = c.args in let m : Machine = machine_of a.state.now a.files.now a.logs.now a.marks.now a.undo.now in
-    let through : LetThrough m a.t = gate-let-through _ m a.t c.admit-gate.ensures.gate c.in_default.is in through.small
+    let through : LetThrough m a.t = gate-let-through _ m a.t (rw c.of.ensures at c.admit.ensures) c.in_ok-admit.was in through.small
 
-pub returns-in-Refused-verdict : goal.returns-in-Refused-verdict
-returns-in-Refused-verdict c =
+pub returns-in_err-admit_read : goal.returns-in_err-admit_read
+returns-in_err-admit_read c =
+    let p = err_from_is_err_and c.from_residual-in_err-admit_read.result c.from_residual-in_err-admit_read.ensures.1 in rw (p.1, p.2) (
     let a = c.args in let m : Machine = machine_of a.state.now a.files.now a.logs.now a.marks.now a.undo.now in
-    let r = c.in-Refused-verdict.r in
-    turned-follows r a.reader.now _ _ _ _ _ _ (read-refused a.t a.d a.n a.reader.now m
-    (tests-admit a.state.now a.files.now a.logs.now a.marks.now a.undo.now a.t c.admit-gate.ensures.gate c.in_default.is
-    c.is_begun.ensures c.if-not-is_begun.false) r
-    (tests-refuse a.state.now a.files.now a.logs.now a.marks.now a.undo.now a.t c.admit-gate.ensures.gate c.in_default.is
-    c.is_begun.ensures c.if-not-is_begun.false c.is_stale.ensures a.d a.n (length a.reader.now) _ c.admit_read-verdict.ensures r
-    c.in-Refused-verdict.is))
+    turned-follows _ a.reader.now _ _ _ _ _ _ (read-refused a.t a.d a.n a.reader.now m
+    (tests-admit a.state.now a.files.now a.logs.now a.marks.now a.undo.now a.t (rw c.of.ensures at c.admit.ensures) c.in_ok-admit.was
+    c.is_begun.ensures c.if-not-is_begun.false) _
+    (tests-refuse a.state.now a.files.now a.logs.now a.marks.now a.undo.now a.t (rw c.of.ensures at c.admit.ensures) c.in_ok-admit.was
+    c.is_begun.ensures c.if-not-is_begun.false c.is_stale.ensures a.d a.n (length a.reader.now) _ c.admit_read.ensures _
+    c.in_err-admit_read.was)))
 
-pub settle_for_read-v-requires : goal.settle_for_read-v-requires
-settle_for_read-v-requires c =
+pub settle_for_read-requires : goal.settle_for_read-requires
+settle_for_read-requires c =
     let a = c.args in
     let l : ReadAdmitted a.state.now a.files.now a.logs.now a.marks.now a.undo.now a.t a.d a.n (length a.reader.now) =
-    read-allowed a.state.now a.files.now a.logs.now a.marks.now a.undo.now a.t c.admit-gate.ensures.gate c.in_default.is
-    c.is_begun.ensures c.if-not-is_begun.false c.is_stale.ensures a.d a.n (length a.reader.now) _ c.admit_read-verdict.ensures
-    c.admit-gate.ensures.long c.in_default-verdict.is in
+    read-allowed a.state.now a.files.now a.logs.now a.marks.now a.undo.now a.t (rw c.of.ensures at c.admit.ensures) c.in_ok-admit.was
+    c.is_begun.ensures c.if-not-is_begun.false c.is_stale.ensures a.d a.n (length a.reader.now) _ c.admit_read.ensures
+    c.told-state c.in_ok-admit_read.was in
     record { ready = all-placeable l; few = omega (arith, l.may.low) }
 
-pub returns-in_default-v : goal.returns-in_default-v
-returns-in_default-v c =
+pub returns-in_default : goal.returns-in_default
+returns-in_default c =
     let a = c.args in
     let l : ReadAdmitted a.state.now a.files.now a.logs.now a.marks.now a.undo.now a.t a.d a.n (length a.reader.now) =
-    read-allowed a.state.now a.files.now a.logs.now a.marks.now a.undo.now a.t c.admit-gate.ensures.gate c.in_default.is
-    c.is_begun.ensures c.if-not-is_begun.false c.is_stale.ensures a.d a.n (length a.reader.now) _ c.admit_read-verdict.ensures
-    c.admit-gate.ensures.long c.in_default-verdict.is in
-    past-follows _ l _ (settled-as l (λ x. chosen_by_read (store_of a.state.now).filenumbers x a.d) _ _ _
-    c.settle_for_read-v.ensures c.in_default-v.is)
+    read-allowed a.state.now a.files.now a.logs.now a.marks.now a.undo.now a.t (rw c.of.ensures at c.admit.ensures) c.in_ok-admit.was
+    c.is_begun.ensures c.if-not-is_begun.false c.is_stale.ensures a.d a.n (length a.reader.now) _ c.admit_read.ensures
+    c.told-state c.in_ok-admit_read.was in
+    past-follows _ l _ _ (settled-as l (λ x. chosen_by_read (store_of a.state.now).filenumbers x a.d) _ _ _
+    c.settle_for_read.ensures c.in_default.is)
 
 pub read_settled-requires : goal.read_settled-requires
 read_settled-requires c =
     let a = c.args in
     let l : ReadAdmitted a.state.now a.files.now a.logs.now a.marks.now a.undo.now a.t a.d a.n (length a.reader.now) =
-    read-allowed a.state.now a.files.now a.logs.now a.marks.now a.undo.now a.t c.admit-gate.ensures.gate c.in_default.is
-    c.is_begun.ensures c.if-not-is_begun.false c.is_stale.ensures a.d a.n (length a.reader.now) _ c.admit_read-verdict.ensures
-    c.admit-gate.ensures.long c.in_default-verdict.is in
+    read-allowed a.state.now a.files.now a.logs.now a.marks.now a.undo.now a.t (rw c.of.ensures at c.admit.ensures) c.in_ok-admit.was
+    c.is_begun.ensures c.if-not-is_begun.false c.is_stale.ensures a.d a.n (length a.reader.now) _ c.admit_read.ensures
+    c.told-state c.in_ok-admit_read.was in
     handed-on _ l _ (settled-as l (λ x. chosen_by_read (store_of a.state.now).filenumbers x a.d) _ _ _
-    c.settle_for_read-v.ensures c.in-Settled.is)
+    c.settle_for_read.ensures c.in-Ok.is)
 
 pub returns : goal.returns
 returns c =
     let a = c.args in
     let l : ReadAdmitted a.state.now a.files.now a.logs.now a.marks.now a.undo.now a.t a.d a.n (length a.reader.now) =
-    read-allowed a.state.now a.files.now a.logs.now a.marks.now a.undo.now a.t c.admit-gate.ensures.gate c.in_default.is
-    c.is_begun.ensures c.if-not-is_begun.false c.is_stale.ensures a.d a.n (length a.reader.now) _ c.admit_read-verdict.ensures
-    c.admit-gate.ensures.long c.in_default-verdict.is in
+    read-allowed a.state.now a.files.now a.logs.now a.marks.now a.undo.now a.t (rw c.of.ensures at c.admit.ensures) c.in_ok-admit.was
+    c.is_begun.ensures c.if-not-is_begun.false c.is_stale.ensures a.d a.n (length a.reader.now) _ c.admit_read.ensures
+    c.told-state c.in_ok-admit_read.was in
     let e = c.read_settled.ensures in
     read-follows _ l _ (settled-as l (λ x. chosen_by_read (store_of a.state.now).filenumbers x a.d) _ _ _
-    c.settle_for_read-v.ensures c.in-Settled.is) _ _ _ _ e.0 e.1 e.2
+    c.settle_for_read.ensures c.in-Ok.is) _ _ _ _ e.0 e.1 e.2

@@ -1,120 +1,69 @@
 -- `call_write::seek` meets its contract.
-use borrow.Author.Rules.{rules}
+use Rattle.std.proofs.lemmas.Result.{err_from_is_err_and}
 use native.Mathlib.Omega.{arith}
-use mathlib.Core.{Bool.true, List.[], Path.◌≡◌}
-use Rattle.state.specs.{StoreMeaning.transaction, declared.outcomes.Refusal.TheVariants.{NotOpen, NoSuchTarget, SeekPastEnd}}
+use mathlib.Core.{Bool.{not}, List.[], Path.{refl, ap}}
+use Rattle.state.specs.declared.outcomes.Refusal.TheVariants.{NotOpen, NoSuchTarget, SeekPastEnd}
 use Rattle.admission.specs.Admission.{admission}
-use Rattle.spec.specs.{Messages.{Op, buffer_of}, Machine.{Machine, sizes}, Calls.{call, admitted, step_turn}, Promises.machine_of}
-use Rattle.refinement.proofs.TurnLaws.{LetThrough, shared_with, gate-refused, gate-passed, gate-let-through, is_open, is-closed}
-use Rattle.refinement.proofs.TurnLaws.{admission-open, admitted-closed, turned-follows}
+use Rattle.spec.specs.{Messages.{Op, buffer_of}, Machine.{Machine}, Calls.{call, admitted, step_turn}, Promises.machine_of}
+use Rattle.refinement.proofs.TurnLaws.{Passed, gate-refused, gate-passes, is-closed, entered, admitted-closed, turned-follows}
 use Rattle.call_write.proofs.SeekRules.{seek-no-descriptor, seek-past-end, seek-fits, seek-follows}
-use mathlib.Core.Bool.{not}
-use mathlib.Core.Path.{ap}
+use Rattle.call_write.proofs.seek_call.seek.Goals.{In_ok-admit}
 use Rattle.call_write.proofs.seek_call.seek.Goals as goal
 
-pub returns-in-Refused : goal.returns-in-Refused
+-- What tests 1 to 3 tell, once they are passed.
+module _ (c : In_ok-admit) where
+  abbrev machine : Machine
+  machine = machine_of c.args.state.now c.args.files.now c.args.logs.now c.args.marks.now c.args.undo.now
+
+  passed : Passed machine c.args.t
+  passed = gate-passes _ machine c.args.t (rw c.of.ensures at c.admit.ensures) c.in_ok-admit.was
+
+pub returns-in_err-admit : goal.returns-in_err-admit
 unfolding call admitted admission buffer_of
-returns-in-Refused c =
-    let machine : Machine = machine_of c.args.state.now c.args.files.now c.args.logs.now c.args.marks.now c.args.undo.now in
-    let start = c in
-    let m = machine in let o = Op.seek start.args.d start.args.v in
-    let e = gate-refused _ m start.args.t c.admit-gate.ensures.gate _ _ (buffer_of o)
-    (step_turn start.args.t o m) c.in-Refused.is in turned-follows _ (buffer_of o) _ _ _ _ _ _ e
+returns-in_err-admit c =
+    let p = err_from_is_err_and c.from_residual.result c.from_residual.ensures.1 in rw (p.1, p.2) (let a = c.args in
+    let m : Machine = machine_of a.state.now a.files.now a.logs.now a.marks.now a.undo.now in
+    let o = Op.seek a.d a.v in turned-follows _ [] _ _ _ _ _ _
+    (gate-refused _ m a.t (rw c.of.ensures at c.admit.ensures) _ _ [] (step_turn a.t o m) c.in_err-admit.was))
 
 pub is_begun-requires : goal.is_begun-requires
-is_begun-requires c =
-    let machine : Machine = machine_of c.args.state.now c.args.files.now c.args.logs.now c.args.marks.now c.args.undo.now in
-    let let_through : LetThrough machine c.args.t = gate-let-through _ machine c.args.t c.admit-gate.ensures.gate
-    c.in_default.is in
-    let_through.small
+is_begun-requires c = (passed (goal.at.is_begun-requires c).In_ok-admit).through.small
 
 pub returns-then-not-is_begun : goal.returns-then-not-is_begun
 unfolding call buffer_of
-returns-then-not-is_begun c =
-    let machine : Machine = machine_of c.args.state.now c.args.files.now c.args.logs.now c.args.marks.now c.args.undo.now in
-    let passed : shared_with machine c.args.t 0 ≡ 0 = gate-passed _ machine c.args.t c.admit-gate.ensures.gate
-    c.in_default.is in
-    let let_through : LetThrough machine c.args.t = gate-let-through _ machine c.args.t c.admit-gate.ensures.gate
-    c.in_default.is in
-    let told = c in let start = told in let m = machine in
-    let o = Op.seek start.args.d start.args.v in
-    let closed = is-closed start.args.state.now start.args.t let_through.small
-    c.is_begun.ensures (ap not c.if-not-is_begun.true) in
+returns-then-not-is_begun c = let s = (goal.at.returns-then-not-is_begun c).In_ok-admit in let p = passed s in
+    let a = c.args in let m = machine s in
+    let closed = is-closed a.state.now a.t p.through.small c.is_begun.ensures (ap not c.if-not-is_begun.true) in
     turned-follows NotOpen [] _ _ _ _ _ _
-    (admitted-closed m start.args.t passed closed [] (step_turn start.args.t o m))
+    (admitted-closed m a.t p.tests closed [] (step_turn a.t (Op.seek a.d a.v) m))
 
 pub returns-then-d-gt-LAST_DESCRIPTOR : goal.returns-then-d-gt-LAST_DESCRIPTOR
-returns-then-d-gt-LAST_DESCRIPTOR c =
-    let machine : Machine = machine_of c.args.state.now c.args.files.now c.args.logs.now c.args.marks.now c.args.undo.now in
-    let passed : shared_with machine c.args.t 0 ≡ 0 = gate-passed _ machine c.args.t c.admit-gate.ensures.gate
-    c.in_default.is in
-    let let_through : LetThrough machine c.args.t = gate-let-through _ machine c.args.t c.admit-gate.ensures.gate
-    c.in_default.is in
-    let begun : let start = c in (transaction machine.store start.args.t).begun ≡ true = let told = c in
-    is_open told.args.state.now told.args.t let_through.small
-    c.is_begun.ensures (ap not c.if-not-is_begun.false) in
-    let admits : let m = machine in admission (sizes m) m.store m.journal c.args.t ≡ 0 = let told = c in
-    admission-open machine told.args.t passed begun in
-    let start = c in
-    turned-follows NoSuchTarget [] _ _ _ _ _ _ (seek-no-descriptor start.args.t start.args.d start.args.v
-    machine admits c.if-d-gt-LAST_DESCRIPTOR.true)
+returns-then-d-gt-LAST_DESCRIPTOR c = let s = (goal.at.returns-then-d-gt-LAST_DESCRIPTOR c).In_ok-admit in
+    let o = entered (passed s) _ refl c.is_begun.ensures (ap not c.if-not-is_begun.false) in
+    turned-follows NoSuchTarget [] _ _ _ _ _ _
+    (seek-no-descriptor c.args.t c.args.d c.args.v (machine s) o.admits c.if-d-gt-LAST_DESCRIPTOR.true)
 
 pub returns-then-v-gt-FILE_BYTES : goal.returns-then-v-gt-FILE_BYTES
-returns-then-v-gt-FILE_BYTES c =
-    let machine : Machine = machine_of c.args.state.now c.args.files.now c.args.logs.now c.args.marks.now c.args.undo.now in
-    let passed : shared_with machine c.args.t 0 ≡ 0 = gate-passed _ machine c.args.t c.admit-gate.ensures.gate
-    c.in_default.is in
-    let let_through : LetThrough machine c.args.t = gate-let-through _ machine c.args.t c.admit-gate.ensures.gate
-    c.in_default.is in
-    let begun : let start = c in (transaction machine.store start.args.t).begun ≡ true = let told = c in
-    is_open told.args.state.now told.args.t let_through.small
-    c.is_begun.ensures (ap not c.if-not-is_begun.false) in
-    let admits : let m = machine in admission (sizes m) m.store m.journal c.args.t ≡ 0 = let told = c in
-    admission-open machine told.args.t passed begun in
-    let start = c in
-    turned-follows SeekPastEnd [] _ _ _ _ _ _ (seek-past-end start.args.t start.args.d start.args.v
-    machine admits c.if-d-gt-LAST_DESCRIPTOR.false c.if-v-gt-FILE_BYTES.true)
+returns-then-v-gt-FILE_BYTES c = let s = (goal.at.returns-then-v-gt-FILE_BYTES c).In_ok-admit in
+    let o = entered (passed s) _ refl c.is_begun.ensures (ap not c.if-not-is_begun.false) in
+    turned-follows SeekPastEnd [] _ _ _ _ _ _ (seek-past-end c.args.t c.args.d c.args.v (machine s) o.admits
+    c.if-d-gt-LAST_DESCRIPTOR.false c.if-v-gt-FILE_BYTES.true)
 
 pub standing_at-standing-requires : goal.standing_at-standing-requires
-standing_at-standing-requires c =
-    let machine : Machine = machine_of c.args.state.now c.args.files.now c.args.logs.now c.args.marks.now c.args.undo.now in
-    let let_through : LetThrough machine c.args.t = gate-let-through _ machine c.args.t c.admit-gate.ensures.gate
-    c.in_default.is in
-    (let_through.small, omega arith)
+standing_at-standing-requires c = ((passed (goal.at.standing_at-standing-requires c).In_ok-admit).through.small, omega arith)
 
 pub put_descriptor-requires : goal.put_descriptor-requires
-put_descriptor-requires c =
-    let machine : Machine = machine_of c.args.state.now c.args.files.now c.args.logs.now c.args.marks.now c.args.undo.now in
-    let let_through : LetThrough machine c.args.t = gate-let-through _ machine c.args.t c.admit-gate.ensures.gate
-    c.in_default.is in
-    let begun : let start = c in (transaction machine.store start.args.t).begun ≡ true = let told = c in
-    is_open told.args.state.now told.args.t let_through.small
-    c.is_begun.ensures (ap not c.if-not-is_begun.false) in
-    let open-here = c in
-    let told = open-here in let a = told.args in (
-      let_through.small,
+put_descriptor-requires c = let s = (goal.at.put_descriptor-requires c).In_ok-admit in let a = c.args in
+    let o = entered (passed s) _ refl c.is_begun.ensures (ap not c.if-not-is_begun.false) in (
+      o.through.small,
       omega arith,
-      seek-fits a.t a.d a.v a.state.now a.files.now a.logs.now a.marks.now a.undo.now
-          told.admit-gate.ensures.long c.if-d-gt-LAST_DESCRIPTOR.false
-          c.if-v-gt-FILE_BYTES.false let_through begun _ _
-          c.standing_at-standing.ensures c.after_seek.ensures,
+      seek-fits a.t a.d a.v a.state.now a.files.now a.logs.now a.marks.now a.undo.now c.told-state
+          c.if-d-gt-LAST_DESCRIPTOR.false c.if-v-gt-FILE_BYTES.false o.through o.begun _ _ c.standing_at-standing.ensures
+          c.after_seek.ensures,
     )
 
 pub returns : goal.returns
-returns c =
-    let machine : Machine = machine_of c.args.state.now c.args.files.now c.args.logs.now c.args.marks.now c.args.undo.now in
-    let passed : shared_with machine c.args.t 0 ≡ 0 = gate-passed _ machine c.args.t c.admit-gate.ensures.gate
-    c.in_default.is in
-    let let_through : LetThrough machine c.args.t = gate-let-through _ machine c.args.t c.admit-gate.ensures.gate
-    c.in_default.is in
-    let begun : let start = c in (transaction machine.store start.args.t).begun ≡ true = let told = c in
-    is_open told.args.state.now told.args.t let_through.small
-    c.is_begun.ensures (ap not c.if-not-is_begun.false) in
-    let admits : let m = machine in admission (sizes m) m.store m.journal c.args.t ≡ 0 = let told = c in
-    admission-open machine told.args.t passed begun in
-    let open-here = c in
-    let told = open-here in let start = told in
-    seek-follows start.args.t start.args.d start.args.v _ _ _ _ _ told.admit-gate.ensures.long
-    c.if-d-gt-LAST_DESCRIPTOR.false c.if-v-gt-FILE_BYTES.false
-    admits let_through begun _ _ c.standing_at-standing.ensures
-    c.after_seek.ensures _ c.put_descriptor.ensures
+returns c = let a = c.args in
+    let o = entered (passed (goal.at.returns c).In_ok-admit) _ refl c.is_begun.ensures (ap not c.if-not-is_begun.false) in
+    seek-follows a.t a.d a.v _ _ _ _ _ c.told-state c.if-d-gt-LAST_DESCRIPTOR.false c.if-v-gt-FILE_BYTES.false o.admits
+    o.through o.begun _ _ c.standing_at-standing.ensures c.after_seek.ensures _ c.put_descriptor.ensures

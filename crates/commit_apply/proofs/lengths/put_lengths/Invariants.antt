@@ -1,17 +1,9 @@
--- `commit_apply::lengths::put_lengths` meets its contract. The loop's invariant: the lengths put so far, and those that stood
--- there after them.
-use mathlib.Core.{List.List, Path.{◌≡◌, refl, sym, ap, ◌∙◌}}
+-- The lengths put so far, and those that stood there after them.
+use mathlib.Core.{List.List, Path.{◌≡◌}}
 use lib.ListN.{length, get_or}
-use Prim.Native.Nat.{ℕ, ◌-◌, ◌≤◌}
-use native.Mathlib.Omega.{arith}
-use Rattle.limits.specs.Limits.{file_count}
-use Rattle.buffers.specs.Parts.{tabulate}
-use Rattle.state.{specs.{StoreMeaning.with_lengths, Layout.store_of}, proofs.Filled.{filled, filled_none, filled-all}}
-use Rattle.spec.proofs.Refinement.IndexedLists.{tabulate-get_d}
-use Rattle.refinement.proofs.Shapes.{shaped}
+use Prim.Native.Nat.{ℕ}
+use Rattle.state.{specs.{StoreMeaning.with_lengths, Layout.store_of}, proofs.Filled.{filled}}
 use Rattle.commit_apply.specs.Apply.{Means}
-use Rattle.commit_apply.proofs.LengthLaws.{length-put}
-use borrow.Author.Rules.{rules}
 use Rattle.commit_apply.proofs.lengths.put_lengths.Given as goal
 
 -- The lengths once the first n are put.
@@ -20,7 +12,4 @@ put_into lengths state n = filled (λ f. get_or lengths f 0) (store_of state).le
 
 abbrev pub invariant-loop-f : goal.invariant-loop-f
 invariant-loop-f l =
-    (l.f ≤ file_count) × Means l.initial.state l.state (with_lengths (put_into l.lengths l.initial.state l.f) (store_of l.initial.state)) × (length l.lengths ≡ 8)
-
-abbrev pub decreases-loop-f : goal.decreases-loop-f
-decreases-loop-f l = file_count - l.f
+    Means l.initial.state l.state (with_lengths (put_into l.lengths l.initial.state l.f) (store_of l.initial.state)) × (length l.lengths ≡ 8)

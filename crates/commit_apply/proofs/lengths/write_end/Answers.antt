@@ -2,7 +2,6 @@
 use mathlib.Core.Path.{◌≡◌, refl}
 use Prim.Native.Nat.{ℕ, zero, suc, ◌+◌}
 use Rattle.spec.specs.Reading.{write_end}
-use borrow.Author.Rules.{rules}
 use Rattle.commit_apply.proofs.lengths.write_end.Goals as goal
 
 some_end : (p n : ℕ) → (n ≡ 0 → ⊥) → p + n ≡ write_end p n

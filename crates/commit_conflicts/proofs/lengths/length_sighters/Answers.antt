@@ -1,15 +1,14 @@
 -- `commit_conflicts::lengths::length_sighters` meets its contract. The loop's invariant: those who have sighted a length that is
 -- raised of the files passed.
-use mathlib.Core.{List.List, Logic.⊎_elim, Path.{◌≡◌, ap, ◌∙◌}}
-use lib.ListN.{length, get_or}
-use Prim.Native.Nat.{ℕ, ◌-◌, ◌≤◌, ◌<◌}
+use mathlib.Core.{List.List, Path.{◌≡◌, ap, ◌∙◌}}
+use lib.ListN.{get_or}
+use Prim.Native.Nat.{ℕ, ◌<◌}
 use native.Mathlib.Omega.{arith}
-use Rattle.limits.specs.Limits.{file_count, buffer_bytes}
+use Rattle.limits.specs.Limits.{file_count}
 use Rattle.buffers.specs.Marks.{contains}
-use Rattle.commit_apply.specs.Apply.{CanLandIn, lengths_landed_in}
-use Rattle.commit_conflicts.specs.Conflicts.{Sighters}
-use Rattle.commit_conflicts.proofs.ConflictLaws.{raised_below, no_lengths, length-hits-none, length_more, length-less}
-use borrow.Author.{Rules.rules, Tests.not-true}
+use Rattle.commit_apply.specs.Apply.{lengths_landed_in}
+use Rattle.commit_conflicts.proofs.ConflictLaws.{no_lengths, length-hits-none, length_more, length-less}
+use borrow.Author.{Tests.not-true}
 use mathlib.Core.Bool.{not}
 use Rattle.commit_conflicts.proofs.lengths.length_sighters.Goals as goal
 use Rattle.commit_conflicts.proofs.lengths.length_sighters.Goals.{else-length_at-after, then-length_at-after}
@@ -21,7 +20,7 @@ returns-then-not-any_sighted c = let a = c.args in
 
 pub loop-f-init : goal.loop-f-init
 loop-f-init c = let a = c.args in
-    (omega arith, λ n files logs marks can e size. no_lengths a.state.now marks a.watched files logs a.t n)
+    λ n files logs marks can e size. no_lengths a.state.now marks a.watched files logs a.t n
 
 pub loop-f-preserved : goal.loop-f-preserved
 loop-f-preserved c = let at-loop = c in let a = at-loop.args in
@@ -29,16 +28,12 @@ loop-f-preserved c = let at-loop = c in let a = at-loop.args in
     let now-at : (n : ℕ) → at-loop.lengths_after-after.result ≡ lengths_landed_in a.state.now a.t n
     → get_or at-loop.lengths_after-after.result l.f 0 ≡ get_or (lengths_landed_in a.state.now a.t n) l.f 0 =
     λ n e. ap (λ (xs : List ℕ). get_or xs l.f 0) e in elim c.if-length_at-after.branch [
-      | then-length_at-after w ↦ (
-        omega arith,
-        λ n files logs marks can e size. length_more a.state.now marks a.watched files logs a.t n can size l.f
-            few _ _ c.length_at.ensures (now-at n e) w.if-length_at-after.true _ _ _ (l.invariant.1 n files logs marks can e
-            size) w.sighted_by.ensures (λ u. ap (λ (k : ℕ). contains k u) w.found-is ∙ w.joined-found.ensures u),
-      )
-      | else-length_at-after w ↦ (
-        omega arith,
-        λ n files logs marks can e size. rw w.found-is
-            (length-less a.state.now marks a.watched files logs a.t n can size l.f few _ _
-            c.length_at.ensures (now-at n e) w.if-length_at-after.false _ (l.invariant.1 n files logs marks can e size)),
-      )
+      | then-length_at-after w ↦
+          λ n files logs marks can e size. length_more a.state.now marks a.watched files logs a.t n can size l.f
+          few _ _ c.length_at.ensures (now-at n e) w.if-length_at-after.true _ _ _ (l.invariant n files logs marks can e
+          size) w.sighted_by.ensures (λ u. ap (λ (k : ℕ). contains k u) w.found-is ∙ w.joined-found.ensures u)
+      | else-length_at-after w ↦
+          λ n files logs marks can e size. rw w.found-is
+          (length-less a.state.now marks a.watched files logs a.t n can size l.f few _ _
+          c.length_at.ensures (now-at n e) w.if-length_at-after.false _ (l.invariant n files logs marks can e size))
     ]

@@ -5,7 +5,7 @@ use Rattle.admission.{proofs.Laws.{below-zero, below_more, below_fails}}
 use Rattle.dispatcher.proofs.rounds.all_over.Goals as goal
 
 pub loop-k-init : goal.loop-k-init
-loop-k-init c = (omega arith, below-zero _)
+loop-k-init c = below-zero _
 
 pub returns-then-goes_on : goal.returns-then-goes_on
 returns-then-goes_on c = let goes = sym c.goes_on.ensures ∙ c.if-goes_on.true in
@@ -13,4 +13,4 @@ returns-then-goes_on c = let goes = sym c.goes_on.ensures ∙ c.if-goes_on.true 
 
 pub loop-k-preserved : goal.loop-k-preserved
 loop-k-preserved c =
-    (omega arith, below_more _ _ c.loop-k.invariant.1 (ap not (sym c.goes_on.ensures ∙ c.if-goes_on.false)))
+    below_more _ _ c.loop-k.invariant (ap not (sym c.goes_on.ensures ∙ c.if-goes_on.false))

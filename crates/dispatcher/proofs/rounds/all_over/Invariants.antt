@@ -7,7 +7,4 @@ use Rattle.dispatcher.specs.Types.{end_at}
 use Rattle.dispatcher.proofs.rounds.all_over.Given as goal
 
 abbrev pub invariant-loop-k : goal.invariant-loop-k
-invariant-loop-k l = (l.k ≤ l.n) × (below (λ j. not (goes_on (end_at l.ends j))) l.k ≡ true)
-
-abbrev pub decreases-loop-k : goal.decreases-loop-k
-decreases-loop-k l = l.n - l.k
+invariant-loop-k l = below (λ j. not (goes_on (end_at l.ends j))) l.k ≡ true

@@ -9,9 +9,6 @@ use Rattle.dispatcher.proofs.rounds.begin_all.Given as goal
 
 abbrev pub invariant-loop-k : goal.invariant-loop-k
 invariant-loop-k l =
-    (l.k ≤ l.count) × (length l.marks ≡ length l.initial.marks) × ((bytes : List ℕ) (minute : ℕ) (x : Scripts) (reader : List ℕ) (n : ℕ)
+    (length l.marks ≡ length l.initial.marks) × ((bytes : List ℕ) (minute : ℕ) (x : Scripts) (reader : List ℕ) (n : ℕ)
     → CarriesStep (λ m. begins (store_reply m) bytes minute x l.k) (machine_of l.initial.state l.files l.logs l.initial.marks l.undo) reader l.ends n
     (machine_of l.state l.files l.logs l.marks l.undo) reader l.ends n)
-
-abbrev pub decreases-loop-k : goal.decreases-loop-k
-decreases-loop-k l = l.count - l.k

@@ -9,10 +9,7 @@ use Rattle.dispatcher.proofs.rounds.commit_all.Given as goal
 
 abbrev pub invariant-loop-k : goal.invariant-loop-k
 invariant-loop-k l =
-    (l.k ≤ l.count) × (l.out.commits ≤ l.initial.out.commits + l.k) × (length l.files ≡ length l.initial.files) × (length l.marks ≡ length l.initial.marks)
+    (l.out.commits ≤ l.initial.out.commits + l.k) × (length l.files ≡ length l.initial.files) × (length l.marks ≡ length l.initial.marks)
     × (length l.undo ≡ length l.initial.undo) × ((bytes : List ℕ) (x : Scripts) (reader : List ℕ)
     → CarriesStep (λ m. commit_all (store_reply m) bytes l.minute x l.k) (machine_of l.initial.state l.initial.files l.logs l.initial.marks l.initial.undo) reader
     l.initial.out.ends l.initial.out.commits (machine_of l.state l.files l.logs l.marks l.undo) reader l.out.ends l.out.commits)
-
-abbrev pub decreases-loop-k : goal.decreases-loop-k
-decreases-loop-k l = l.count - l.k

@@ -18,7 +18,7 @@ returns-then-not-goes_on c = record {
 pub returns : goal.returns
 returns c = record {
   work = λ bytes x reader m₀ w s. commit-done bytes c.args.minute x c.args.k m₀ w _ reader _ _ s _ _
-      c.commit-o.ensures.0 _ c.gate_of.ensures (goes-as m₀ w _ reader _ _ s c.args.k
+      c.commit-o.ensures.0 (goes-as m₀ w _ reader _ _ s c.args.k
       c.requires.0 _ true c.goes_on.ensures (not-false _ (ap not c.if-not-goes_on.false))) _ _
       (λ v t. c.decide-out.ensures reader _ m₀ v t);
   few = omega arith;

@@ -4,7 +4,6 @@ use lib.ListN.{set, replicate}
 use Rattle.standings.specs.Table.{pointer_settles}
 use Rattle.read_settle.specs.Choices.{settles_for_pointer, chosen_by_pointer}
 use Rattle.read_settle.proofs.ChoiceLaws.{one-chosen}
-use borrow.Author.Rules.{rules}
 use Rattle.read_settle.proofs.settle_call.chosen_by_pointer.Goals as goal
 
 pub returns : goal.returns

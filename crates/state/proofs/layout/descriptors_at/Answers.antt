@@ -1,13 +1,12 @@
 -- `state::layout::descriptors_at` meets its contract.
 use Rattle.limits.specs.Limits.{descriptor_count}
-use Rattle.state.specs.{Layout.{descriptor_of, transaction_of}, declared.Descriptor.Descriptor, StoreMeaning.no_descriptor}
-use mathlib.Core.{Bool.{Bool, true, false, not}, List.List, Logic.⊎_elim, Path.{refl, sym, ap, ◌∙◌, ◌≡◌}}
+use Rattle.state.specs.{Layout.{transaction_of}, declared.Descriptor.Descriptor, StoreMeaning.no_descriptor}
+use mathlib.Core.{List.List, Path.{refl, sym, ap, ◌∙◌, ◌≡◌}}
 use lib.ListN.{set, replicate, length, get_or-replicate}
 use Rattle.buffers.specs.Parts.{tabulate}
 use Rattle.state.proofs.Filled.{filled, filled_none, filled-all, filled-set, filled-preserved}
-use Prim.Native.Nat.{ℕ, ◌+◌, ◌-◌, ◌≤◌, ◌<◌}
+use Prim.Native.Nat.{ℕ, ◌+◌, ◌<◌}
 use native.Mathlib.Omega.{arith}
-use borrow.Author.Rules.{rules}
 use Rattle.state.proofs.layout.descriptors_at.Goals as goal
 use Rattle.state.proofs.layout.descriptors_at.Goals.{else-not-is_blank_at, then-not-is_blank_at}
 
@@ -20,25 +19,18 @@ blank_stands : (f : ℕ → Descriptor) (d : ℕ) (all : List Descriptor) → d 
 blank_stands f d all l e so = so ∙ filled-preserved f (replicate 16 no_descriptor) d no_descriptor (omega arith) (e
     ∙ sym (get_or-replicate 16 d no_descriptor no_descriptor l))
 
-was-true : (b : Bool) → not b ≡ false → b ≡ true
-was-true true e = refl
-was-true false e = cc
-
 pub loop-d-init : goal.loop-d-init
-loop-d-init c = (omega arith, sym (filled_none _ _))
+loop-d-init c = sym (filled_none _ _)
 
 pub loop-d-preserved : goal.loop-d-preserved
-loop-d-preserved c = let l = c.loop-d in (
-  omega arith,
-  elim c.if-not-is_blank_at.branch [
-    | then-not-is_blank_at w ↦ w.all-is ∙ ap (λ (xs : List Descriptor). set xs l.d w.descriptor_at-q.result) l.invariant.1
-        ∙ filled-set _ _ l.d w.descriptor_at-q.result (omega arith) w.descriptor_at-q.ensures
-    | else-not-is_blank_at w ↦ w.all-is ∙ blank_stands _ l.d _
-        (omega arith) (c.is_blank_at.ensures w.if-not-is_blank_at.false) l.invariant.1
-  ],
-)
+loop-d-preserved c = let l = c.loop-d in elim c.if-not-is_blank_at.branch [
+  | then-not-is_blank_at w ↦ w.all-is ∙ ap (λ (xs : List Descriptor). set xs l.d w.descriptor_at.result) l.invariant
+      ∙ filled-set _ _ l.d w.descriptor_at.result (omega arith) w.descriptor_at.ensures
+  | else-not-is_blank_at w ↦ w.all-is ∙ blank_stands _ l.d _
+      (omega arith) (c.is_blank_at.ensures w.if-not-is_blank_at.false) l.invariant
+]
 
 pub returns : goal.returns
 unfolding transaction_of
-returns c = let l = c.loop-d in let e : l.d ≡ 16 = omega arith in
-    sixteen _ (replicate 16 no_descriptor) _ refl (rw e at l.invariant.1)
+returns c = let e : c.loop-d.d ≡ 16 = omega arith in
+    sixteen _ (replicate 16 no_descriptor) _ refl (rw e at c.loop-d.invariant)

@@ -1,19 +1,13 @@
 -- `state::readers::tables_at_most` meets its contract.
 use Rattle.state.specs.Layout.{file_numbers_at, offsets_at, lengths_at, starts_at}
-use Rattle.buffers.{proofs.BelowLaws.{none_yet, one_more}, specs.Below.below}
-use Rattle.state.proofs.ReaderLaws.{two_none, tables-decide}
+use Rattle.buffers.{specs.Below.below}
 use lib.{Dec.{leb, eqb}, ListN.get_or}
-use Prim.Native.Nat.{◌+◌, ◌-◌, ◌≤◌}
-use mathlib.Core.{Bool.◌&&◌, Path.{◌≡◌, refl, ◌∙◌}}
-use native.Mathlib.Omega.{arith}
-use borrow.Author.Rules.{rules}
+use Prim.Native.Nat.{◌+◌}
+use mathlib.Core.{Bool.◌&&◌, Path.{◌≡◌}}
 use Rattle.state.proofs.readers.tables_at_most.Given as goal
 
 abbrev pub invariant-loop-k : goal.invariant-loop-k
-invariant-loop-k l = (l.k ≤ 8) × (eqb l.bad 0 ≡ below (λ j.
+invariant-loop-k l = (eqb l.bad 0 ≡ below (λ j.
     (leb (get_or l.state (file_numbers_at + j) 0) l.file && leb (get_or l.state (file_numbers_at + (8 + j)) 0) l.file) && (leb (get_or l.state
     (offsets_at + j) 0) l.offset && leb (get_or l.state (offsets_at + (8 + j)) 0) l.offset) && leb (get_or l.state (lengths_at + j) 0)
     l.length && (leb (get_or l.state (starts_at + j) 0) l.minute && leb (get_or l.state (starts_at + (8 + j)) 0) l.minute)) l.k)
-
-abbrev pub decreases-loop-k : goal.decreases-loop-k
-decreases-loop-k l = 8 - l.k

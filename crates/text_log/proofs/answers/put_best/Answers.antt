@@ -9,7 +9,7 @@ put_spaced-next-requires-2 c = omega (
   arith,
   c.put_ok-next.ensures.end,
   c.put_spaced-next.ensures.end,
-  length-number c.wide_octet.result,
+  length-number c.from.result,
   c.requires,
 )
 
@@ -18,9 +18,9 @@ put_spaced-next-requires-3 c = omega (
   arith,
   c.put_ok-next.ensures.end,
   c.put_spaced-next.ensures.end,
-  length-number c.wide_octet.result,
+  length-number c.from.result,
   c.put_spaced-next-2.ensures.end,
-  length-number c.wide_octet-2.result,
+  length-number c.from-2.result,
   c.requires,
 )
 
@@ -29,18 +29,18 @@ put_list-requires c = omega (
   arith,
   c.put_ok-next.ensures.end,
   c.put_spaced-next.ensures.end,
-  length-number c.wide_octet.result,
+  length-number c.from.result,
   c.put_spaced-next-2.ensures.end,
-  length-number c.wide_octet-2.result,
+  length-number c.from-2.result,
   c.put_spaced-next-3.ensures.end,
-  length-number c.wide.result,
+  length-number c.from-3.result,
   c.requires,
 )
 
 pub returns : goal.returns
 returns c = let start = c in
-    best-text start.args.order.now start.requires c.wide_octet.ensures.0 c.wide_octet-2.ensures.0
-    c.wide.ensures.0
+    best-text start.args.order.now start.requires c.from.ensures c.from-2.ensures
+    c.from-3.ensures
     c.put_ok-next.ensures c.put_spaced-next.ensures
     c.put_spaced-next-2.ensures
     c.put_spaced-next-3.ensures c.put_list.ensures

@@ -7,11 +7,11 @@ use Rattle.text_log.proofs.AnswerTexts.{places-text}
 use Rattle.text_log.proofs.answers.put_places.Goals as goal
 
 pub returns : goal.returns
-returns c = let start = c in let l = start.args.buffer.now in let n = c.smaller-end.result in
+returns c = let start = c in let l = start.args.buffer.now in let n = c.min-end.result in
     let e : n ≡ min (4 * start.args.n) (length l) = omega (
       arith,
-      c.smaller-end.ensures,
-      c.wide.ensures,
+      c.min-end.ensures,
+      c.from.ensures,
     ) in
     places-text l n (4 * start.args.n) start.requires e
     c.put_ok-next.ensures

@@ -9,5 +9,5 @@ returns-in_default c = other-entry _ _ (no-octets _ _ _ c.octets_of.ensures.mean
 
 pub returns : goal.returns
 unfolding log_entry_of written_by
-returns c = let e = c.octets_of.ensures in let many = c.in-Many.is in
+returns c = let e = c.octets_of.ensures in let many = c.in-Some.is in
     record { means = all-octets _ _ _ e.means _ many fresh; bytes = many-within _ _ _ e.within many }

@@ -1,41 +1,35 @@
--- The octets in the buffer, and those of the rest of the list, make what was asked for.
-use mathlib.Core.Path.{refl, sym, ap, ◌∙◌}
-use native.Mathlib.Omega.{arith}
-use lib.ListN.{take, length-set}
+-- The octets so far, and those of the numbers that are left, make those of all numbers.
+use Rattle.std.proofs.Common.{◌≡◌, ◌≤◌, refl, sym, ap, ◌∙◌, arith, length, take}
+use lib.ListN.{length-set}
 use Rattle.text_numerals.specs.{Decimal.prepended, Fields.{values_of, number_count}}
-use Rattle.text_numerals.proofs.ReadLaws.{ahead_none, ahead-all, ahead_step}
+use Rattle.text_numerals.proofs.ReadLaws.{ahead_none, ahead_step, ahead-all}
 use Rattle.text_log.proofs.ReadingLaws.{octets-end, octets-over, octets-more}
 use Rattle.text_log.proofs.parsing.octets_of.Goals as goal
 
 pub loop-i-init : goal.loop-i-init
-loop-i-init c = (omega arith, c.requires.0, omega arith, refl, sym (ahead_none _))
+loop-i-init c = record { same_length = refl; same = sym (ahead_none _) }
 
-pub returns-then-v-gt255 : goal.returns-then-v-gt255
+pub returns-then-n-gt255 : goal.returns-then-n-gt255
 unfolding values_of number_count prepended
-returns-then-v-gt255 c = let l = c.loop-i in let start = c in record {
-  means = sym (l.invariant.4 ∙ ap (prepended (take l.k l.bytes))
-      (octets-over _ _ _ c.loop-i-test.true start.requires.1.0 c.if-v-gt255.true));
+returns-then-n-gt255 c = let l = c.loop-i in record {
+  means = sym (l.invariant.same ∙ ap (prepended (take l.i l.bytes)) (octets-over c.args.numbers.now l.i (omega arith) c.if-n-gt255.true));
   within = omega arith;
-  same_length = l.invariant.3;
+  same_length = l.invariant.same_length;
 }
 
 pub loop-i-preserved : goal.loop-i-preserved
-loop-i-preserved c = let l = c.loop-i in let start = c in
-    let h = c.loop-i-test.true in (
-      omega (arith, l.invariant.0),
-      omega (arith, h),
-      omega (arith, l.invariant.0, l.invariant.2),
-      simp length-set l.invariant.3,
-      ahead_step _ l.k _ l.bytes _ _ l.invariant.4
-          (omega (arith, l.invariant.0, l.invariant.2, l.invariant.3, h, start.requires.1.1))
-          (octets-more _ _ _ h start.requires.1.0 c.if-v-gt255.false),
-    )
+loop-i-preserved c = let l = c.loop-i in record {
+  same_length = simp length-set l.invariant.same_length;
+  same = ahead_step _ l.i _ l.bytes _ _ l.invariant.same (omega (arith, l.invariant.same_length))
+      (octets-more c.args.numbers.now l.i (omega arith) c.if-n-gt255.false);
+}
 
 pub returns : goal.returns
 unfolding values_of number_count
-returns c = let l = c.loop-i in let start = c in record {
-  means = sym (l.invariant.4 ∙ ap (prepended (take l.k l.bytes))
-      (octets-end _ _ _ c.loop-i-test.false start.requires.1.0) ∙ ahead-all (take l.k l.bytes));
-  within = omega (arith, l.invariant.0, l.invariant.1, l.invariant.2, l.invariant.3, start.requires.1.1);
-  same_length = l.invariant.3;
-}
+returns c = let l = c.loop-i in let all : l.i ≡ length c.args.numbers.now = omega arith in
+    let past : length c.args.numbers.now ≤ l.i = omega arith in rw (← all) (record {
+      means = sym (l.invariant.same ∙ ap (prepended (take l.i l.bytes)) (octets-end c.args.numbers.now l.i past)
+          ∙ ahead-all (take l.i l.bytes));
+      within = omega (arith, l.invariant.same_length);
+      same_length = l.invariant.same_length;
+    })

@@ -28,6 +28,6 @@ returns c = let e = c.pairs_at.ensures in record {
   means = sym (pairs-space _ _ _ _ c.if-line-at.false
       c.if-line-at-ne32.false ∙ counted-many _ _ _ _
       (rw c.requires at
-      e.means) _ c.in-Many.is);
-  bytes = many-within _ _ _ e.within c.in-Many.is;
+      e.means) _ c.in-Some.is);
+  bytes = many-within _ _ _ e.within c.in-Some.is;
 }

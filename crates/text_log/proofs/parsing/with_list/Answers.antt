@@ -2,10 +2,10 @@
 use Rattle.text_log.specs.LogLines.{entry_asked}
 use Rattle.text_log.proofs.parsing.with_list.Goals as goal
 
-pub returns-then-letter-eq70 : goal.returns-then-letter-eq70
+pub returns-in-70 : goal.returns-in-70
 unfolding entry_asked
-returns-then-letter-eq70 c = rw c.if-letter-eq70.true c.fresh_line.ensures
+returns-in-70 c = rw c.in-70.is c.fresh_line.ensures
 
-pub returns-then-letter-eq79 : goal.returns-then-letter-eq79
+pub returns-in-79 : goal.returns-in-79
 unfolding entry_asked
-returns-then-letter-eq79 c = rw c.if-letter-eq79.true c.order_line.ensures
+returns-in-79 c = rw c.in-79.is c.order_line.ensures

@@ -1,9 +1,7 @@
 -- `act` meets its contract. Assumes nothing.
-use borrow.Author.Rules.{rules}
 use mathlib.Core.Path.{refl, ◌∙◌}
 use native.Mathlib.Omega.{arith}
-use Rattle.text_replay.proofs.TurnLaws.{comment-took, expects-took, version-took, another-took, fresh-took, asks-took}
-use Rattle.text_replay.proofs.TurnLaws.{order-took}
+use Rattle.text_replay.proofs.TurnLaws.{comment-took, expects-took, version-took, another-took, calls-took}
 use Rattle.text_replay.proofs.answering.act.Goals as goal
 
 pub returns-in-Comment : goal.returns-in-Comment
@@ -44,27 +42,5 @@ returns-in-Another c = let at-answer = c in
     )
 
 pub returns-in-Fresh : goal.returns-in-Fresh
-returns-in-Fresh c = let at-answer2 = c in
-    let at-enum-told4 = at-answer2 in
-    let start = at-enum-told4 in (
-      at-answer2.answer-in-Fresh.ensures.0,
-      fresh-took _ _ _ start.args.p _ _ _ _ _ at-enum-told4.in-Fresh.is at-answer2.answer-in-Fresh.ensures.1,
-    )
-
-pub returns-in-Asks : goal.returns-in-Asks
-returns-in-Asks c = let at-answer3 = c in
-    let at-enum-told5 = at-answer3 in
-    let start = at-enum-told5 in (
-      at-answer3.answer-in-Asks.ensures.0,
-      asks-took _ _ _ start.args.p _ _ _ _ _ _ _ at-enum-told5.in-Asks.is
-          at-answer3.answer-in-Asks.ensures.1,
-    )
-
-pub returns-in-Order : goal.returns-in-Order
-returns-in-Order c = let at-answer4 = c in
-    let at-enum-told6 = at-answer4 in
-    let start = at-enum-told6 in (
-      at-answer4.answer-in-Order.ensures.0,
-      order-took _ _ _ start.args.p _ _ _ _ _ _ _ at-enum-told6.in-Order.is
-          at-answer4.answer-in-Order.ensures.1,
-    )
+returns-in-Fresh c = let t = c.answer-in-Fresh.ensures in
+    (t.0, calls-took _ _ _ c.args.p _ _ _ _ c.in-Fresh.is t.1)

@@ -1,12 +1,11 @@
 -- `answer` meets its contract. Assumes nothing.
-use borrow.Author.Rules.{rules}
 use mathlib.Core.Path.{refl}
 use native.Mathlib.Omega.{arith}
 use Rattle.text_replay.proofs.{Laws.{line-part-short, reply-end}, TurnLaws.answered-took}
 use Rattle.text_replay.proofs.answering.answer.Goals as goal
 
-pub put_reply-end-requires : goal.put_reply-end-requires
-put_reply-end-requires c = let at-perform-line = c in
+pub put_reply-requires : goal.put_reply-requires
+put_reply-requires c = let at-perform-line = c in
     let start = at-perform-line in omega (
       arith,
       line-part-short _ _ _ _ c.part.ensures,
@@ -20,7 +19,7 @@ put_byte-requires c = let at-put-reply = c in let at_part = at-put-reply in
     let at-perform-line = at_part in
     let start = at-perform-line in omega (
       arith,
-      (reply-end _ _ at-put-reply.put_reply-end.ensures).1,
+      (reply-end _ _ at-put-reply.put_reply.ensures).1,
       line-part-short _ _ _ _ at_part.part.ensures,
       at-perform-line.perform_line-a.ensures.0,
       start.requires.0,
@@ -31,7 +30,7 @@ pub returns : goal.returns
 returns c = let at-put-byte = c in let at-put-reply = at-put-byte in
     let at_part = at-put-reply in let at-perform-line = at_part in
     let start = at-perform-line in
-    let put = at-put-reply.put_reply-end.ensures in let next = at-put-byte.put_byte.ensures in
+    let put = at-put-reply.put_reply.ensures in let next = at-put-byte.put_byte.ensures in
     let s = at-perform-line.perform_line-a.ensures in let w = start.requires.0 in
     let n = line-part-short _ _ _ _ at_part.part.ensures in let e = reply-end _ _ put in
     let room = start.requires.1.printable in (

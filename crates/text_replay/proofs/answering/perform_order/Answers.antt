@@ -1,5 +1,4 @@
 -- `perform_order` meets its contract. Assumes nothing.
-use borrow.Author.Rules.{rules}
 use Rattle.text_replay.proofs.Performing.{order-replies}
 use Rattle.text_replay.proofs.answering.perform_order.Goals as goal
 

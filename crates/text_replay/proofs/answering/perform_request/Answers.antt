@@ -1,5 +1,4 @@
 -- `perform_request` meets its contract. Assumes nothing.
-use borrow.Author.Rules.{rules}
 use lib.ListN.{length-take}
 use native.Mathlib.Omega.{arith}
 use Rattle.text_replay.proofs.Performing.{request-replies, size-within}
@@ -8,9 +7,9 @@ use Rattle.text_replay.proofs.answering.perform_request.Goals as goal
 pub returns : goal.returns
 returns c = let at-perform = c in let at-clipped = at-perform in
     let at-answer-size = at-clipped in
-    let at-smaller = at-answer-size in let start = at-smaller in let a = start.args in
-    let n = at-smaller.smaller-n.ensures in let part = length-take at-smaller.smaller-n.result a.reader.now in
-    let o = at-perform.perform-o in let size = at-answer-size.answer_size-size.ensures in (
+    let at-min = at-answer-size in let start = at-min in let a = start.args in
+    let n = at-min.min-n.ensures in let part = length-take at-min.min-n.result a.reader.now in
+    let o = at-perform.perform-outcome in let size = at-answer-size.answer_size-size.ensures in (
       size-within _ _ _ size (omega (arith, n)),
       (
         request-replies _ _ _ _ _ _ _ _ _ _ _ _ _ _ _ _ at-clipped.clipped.ensures size n

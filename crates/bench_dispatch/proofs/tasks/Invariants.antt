@@ -1,9 +1,0 @@
--- `tasks` meets its contract. The loop goes over the scripts.
-use Rattle.std.proofs.Common.{◌-◌, ◌≤◌}
-use Rattle.bench_dispatch.proofs.tasks.Given as goal
-
-abbrev pub invariant-loop-k : goal.invariant-loop-k
-invariant-loop-k l = l.k ≤ 8
-
-abbrev pub decreases-loop-k : goal.decreases-loop-k
-decreases-loop-k l = 8 - l.k

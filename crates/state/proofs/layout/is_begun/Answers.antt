@@ -1,8 +1,0 @@
--- `state::layout::is_begun` meets its contract.
-use Rattle.state.specs.Layout.{transaction_of}
-use mathlib.Core.Path.{refl}
-use borrow.Author.Rules.{rules}
-use Rattle.state.proofs.layout.is_begun.Goals as goal
-
-pub returns : goal.returns
-returns c = unfold transaction_of in refl

@@ -1,0 +1,2 @@
+-- The promise of the calls on a store that a program keeps.
+pub mod Kept

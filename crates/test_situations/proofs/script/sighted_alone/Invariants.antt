@@ -1,9 +1,0 @@
--- The loop goes over the descriptors.
-use Prim.Native.Nat.{◌-◌, ◌≤◌}
-use Rattle.test_situations.proofs.script.sighted_alone.Given as goal
-
-abbrev pub invariant-loop-i : goal.invariant-loop-i
-invariant-loop-i l = l.i ≤ 16
-
-abbrev pub decreases-loop-i : goal.decreases-loop-i
-decreases-loop-i l = 16 - l.i

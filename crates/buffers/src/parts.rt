@@ -5,13 +5,15 @@ ghost use Rattle.buffers.specs.Parts.{pasted, cut, chosen, file_part};
 
 use limits::FILE_BYTES;
 
-// Copies all of src over the octets of dst from `at` on.
-#[tactic(auto, unfolding(crate::specs::Parts::pasted))]
+// Copies all of src over the octets of dst from `at` on. By number: with `copy_from_slice` the library for C would
+// need memmove from outside.
 pub fn copy_to(dst: &mut [u8], at: usize, src: &[u8])
     requires { at + length src.now ≤ length dst.old }
     ensures { dst.new ≡ pasted dst.old at src.now }
 {
-    dst[at..at + src.len()].copy_from_slice(src);
+    for i in 0..src.len() {
+        dst[at + i] = src[i];
+    }
 }
 
 // The n octets of the buffer from `at` on.

@@ -3,7 +3,7 @@ ghost use Rattle.std.specs.Prelude.{[]};
 ghost use Rattle.spec.specs.Promises.{Follows, lent_mut, lent_shared};
 ghost use Rattle.c_images.specs.ImageCalls.{load_rule};
 
-use crate::saving::range_gate;
+use crate::saving::{copy, range_gate};
 use images::{Numbers, is_canonical, word_at, young_record};
 use state::layout::State;
 use state::outcomes::{Answer, Outcome, Refusal};
@@ -37,8 +37,8 @@ pub fn load_image(
     let young = young_record(numbers);
     range_gate(&young)?;
     *state = young;
-    files.copy_from_slice(bytes);
+    copy(files, bytes);
     marks.fill(0);
-    undo.copy_from_slice(old);
+    copy(undo, old);
     Ok(Answer::Done)
 }

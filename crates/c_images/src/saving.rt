@@ -1,5 +1,5 @@
 // The check, and saving.
-ghost use Rattle.std.specs.Prelude.{[], ◌≡◌};
+ghost use Rattle.std.specs.Prelude.{[], ◌≡◌, length};
 ghost use Rattle.state.specs.Layout.{store_of, journal_of};
 ghost use Rattle.admission.specs.FirstRefusal.{unless};
 ghost use Rattle.admission.specs.Admission.{store_in, gate_number};
@@ -7,6 +7,7 @@ ghost use Rattle.spec.specs.Promises.{Follows, lent_mut, lent_shared, machine_of
 ghost use Rattle.c_images.specs.ImageCalls.{check_rule, SavedImage};
 
 use admission::{Sizes, first_tests};
+use buffers::parts::copy_to;
 use images::{Numbers, put_numbers};
 use limits::{BUFFER_BYTES, FILE_BYTES};
 use state::layout::State;
@@ -26,6 +27,14 @@ pub fn range_gate(state: &State) -> Result<(), Refusal>
         undo: FILE_BYTES,
     };
     first_tests(state, sizes)
+}
+
+// Copies all of src over all of dst.
+pub fn copy(dst: &mut [u8], src: &[u8])
+    requires { length dst.old ≡ length src.now }
+    ensures { dst.new ≡ src.now }
+{
+    copy_to(dst, 0, src);
 }
 
 // Refusal 2, or nothing.
@@ -58,7 +67,7 @@ pub fn save_image(
 {
     range_gate(state)?;
     put_numbers(state, numbers);
-    bytes.copy_from_slice(files);
-    old.copy_from_slice(undo);
+    copy(bytes, files);
+    copy(old, undo);
     Ok(Answer::Done)
 }

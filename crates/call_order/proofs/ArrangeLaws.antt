@@ -1,10 +1,8 @@
--- Order number i: factorials, a number taken out of a list, and the order one number after the other.
-use mathlib.Core.{List.{List, [], ◌∷◌, ◌++◌, append-nil, append_assoc}, Path.{◌≡◌, refl, sym, ap, ap₂, subst, ◌∙◌}}
-use lib.ListN.{length, get_or, set, take, drop, replicate, take-append-drop, length-drop}
-use lib.Seq.{take-suc-set, take-nil, append_snoc, get_or-take}
+-- Order number i: factorials, a list whose numbers move up, and the order one number after the other.
+use mathlib.Core.{List.{List, [], ◌∷◌, ◌++◌, append-nil}, Path.{◌≡◌, refl, sym, ap, ap₂, subst, ◌∙◌}}
+use lib.ListN.{length, get_or, set, take, drop, replicate, take-append-drop}
+use lib.Seq.{take-suc, take-suc-set, take_at, take-nil, append_snoc, drop-cons, set_at, get_or-take, get_or-drop, get_or-append-add}
 use lib.Seq.{length-take-le}
-use Rattle.std.specs.List.{copy_within}
-use Rattle.std.proofs.lemmas.{List.take-append-le, List.Edits.paste_all}
 use native.Mathlib.{Nat.{zero-sub, sub-zero, suc-sub-suc, le_of_suc-le-suc}, Numerals.add-one, Omega.arith}
 use Prim.Native.Nat.{ℕ, zero, suc, ◌+◌, ◌-◌, ◌*◌, ◌/◌, ◌%◌, ◌≤◌, ◌<◌}
 use Rattle.limits.specs.Limits.{transaction_count, most_orders}
@@ -47,6 +45,47 @@ padded-front n xs l z = sym (take-append-drop n xs)
 
 -- ---- a number taken out, those after it moved up
 
+-- The numbers from q up to j are in their new places.
+unfoldable pub moved : ℕ → List ℕ → ℕ → List ℕ
+moved q xs j = take j (without q xs) ++ drop j xs
+
+front-without : (q : ℕ) (xs : List ℕ) → q ≤ length xs → take q (without q xs) ≡ take q xs
+front-without q xs l = unfold without in take_at (take q xs) (drop (suc q) xs) q (length-take-le q xs l)
+
+pub moved_none : (q : ℕ) (xs : List ℕ) → q ≤ length xs → moved q xs q ≡ xs
+moved_none q xs l = unfold moved in ap (λ (ys : List ℕ). ys ++ drop q xs) (front-without q xs l) ∙ take-append-drop q xs
+
+get_d-without : (q : ℕ) (xs : List ℕ) (j : ℕ) → q ≤ j → get_or (without q xs) j 0 ≡ get_or xs (suc j) 0
+unfolding without
+get_d-without zero [] j l = refl
+get_d-without zero (x ∷ xs) j l = refl
+get_d-without (suc q) [] j l = refl
+get_d-without (suc q) (x ∷ xs) zero l = absurd (omega arith)
+get_d-without (suc q) (x ∷ xs) (suc j) l = get_d-without q xs j (le_of_suc-le-suc l)
+
+module _ (q : ℕ) (xs : List ℕ) (j : ℕ) (low : q ≤ j) (room : suc j < length xs) where
+  long : suc (length (without q xs)) ≡ length xs
+  long = length_without q xs (omega arith)
+
+  front : length (take j (without q xs)) ≡ j
+  front = length-take-le j (without q xs) (omega (arith, long))
+
+  -- The number after j still stands where it stood.
+  next-is : get_or (moved q xs j) (j + 1) 0 ≡ get_or (without q xs) j 0
+  unfolding moved
+  next-is = ap (λ (k : ℕ). get_or (take j (without q xs) ++ drop j xs) (k + 1) 0) (sym front)
+      ∙ get_or-append-add (take j (without q xs)) (drop j xs) 1 0 ∙ get_or-drop j xs 1 0
+      ∙ ap (λ (k : ℕ). get_or xs k 0) (add-one j) ∙ sym (get_d-without q xs j low)
+
+  pub moved_more : set (moved q xs j) j (get_or (moved q xs j) (j + 1) 0) ≡ moved q xs (j + 1)
+  unfolding moved
+  moved_more = ap (λ (v : ℕ). set (moved q xs j) j v) next-is
+      ∙ ap (λ (ys : List ℕ). set (take j (without q xs) ++ ys) j (get_or (without q xs) j 0)) (drop-cons xs j 0 (omega arith))
+      ∙ set_at (take j (without q xs)) (get_or xs j 0) (drop (suc j) xs) (get_or (without q xs) j 0) j front
+      ∙ sym (append_snoc (take j (without q xs)) (get_or (without q xs) j 0) (drop (suc j) xs))
+      ∙ ap (λ (ys : List ℕ). ys ++ drop (suc j) xs) (sym (take-suc (without q xs) j 0 (omega (arith, long))))
+      ∙ ap (λ (k : ℕ). take k (without q xs) ++ drop k xs) (sym (add-one j))
+
 take-without : (q m : ℕ) (xs : List ℕ) → q ≤ m → without q (take (suc m) xs) ≡ take m (without q xs)
 unfolding without
 take-without zero m [] l = sym (take-nil m)
@@ -55,20 +94,10 @@ take-without (suc q) m [] l = sym (take-nil m)
 take-without (suc q) zero (x ∷ xs) l = absurd (omega arith)
 take-without (suc q) (suc m) (x ∷ xs) l = ap (λ (r : List ℕ). x ∷ r) (take-without q m xs (le_of_suc-le-suc l))
 
--- One number taken out of an array, those after it moved up.
-parted : (q : ℕ) (xs tail : List ℕ) → take q xs ++ (drop (suc q) xs ++ tail) ≡ without q xs ++ tail
-unfolding without
-parted q xs tail = sym (append_assoc (take q xs) (drop (suc q) xs) tail)
-
-pub removed_is : (q m end : ℕ) (xs : List ℕ) → q ≤ m → m < length xs → end ≡ length xs
-    → take m (copy_within xs (q + 1) end q) ≡ without q (take (suc m) xs)
-removed_is q m end xs l r all = rw all (
-    let n : ℕ = length xs - (q + 1) in let tail : List ℕ = drop (q + n) xs in
-    let long : suc (length (without q xs)) ≡ length xs = length_without q xs (omega arith) in
-    let fits : m ≤ length (without q xs) = omega arith in
-    ap (take m) (paste_all xs q (drop (q + 1) xs) n (sym (length-drop (q + 1) xs))
-    ∙ ap (λ (k : ℕ). take q xs ++ (drop k xs ++ tail)) (add-one q) ∙ parted q xs tail)
-    ∙ take-append-le m (without q xs) tail fits ∙ sym (take-without q m xs l))
+pub moved_all : (q m : ℕ) (xs : List ℕ) → q ≤ m → m < length xs → take m (moved q xs m) ≡ without q (take (suc m) xs)
+moved_all q m xs l r = unfold moved in let e = length_without q xs (omega arith) in
+    take_at (take m (without q xs)) (drop m xs) m (length-take-le m (without q xs) (omega (arith, e)))
+    ∙ sym (take-without q m xs l)
 
 -- ---- the order, one number after the other
 

@@ -60,6 +60,12 @@ module _ (ts : List ℕ) where
   pub distinct-done : (k : ℕ) → length ts ≤ k → DistinctLeft k → distinct ts ≡ true
   distinct-done k l e = unfold distinct in e ∙ ap distinct (drop_of_length-le ts l)
 
+-- ---- a number that occurs
+
+-- Behind the list's end none does.
+pub in-empty : (t : ℕ) (ts : List ℕ) (k : ℕ) → length ts ≤ k → is_in t (drop k ts) ≡ false
+in-empty t ts k l = unfold is_in in ap (is_in t) (drop_of_length-le ts l)
+
 -- ---- in std's words
 
 pub all-std : (p : ℕ → Bool) (ts : List ℕ) → all_in p ts ≡ list_all p ts

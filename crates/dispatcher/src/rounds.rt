@@ -171,15 +171,15 @@ fn make_pass(
     logs: &mut [u8],
     marks: &mut [u8],
     undo: &mut [u8],
-    scripts: Scripts,
+    scripts: &Scripts,
     i: usize,
     bytes: &[u8],
     reader: &mut [u8],
     ends: Ends,
 ) -> Ends
-    requires { (i < script_calls) × (scripts_in (length bytes.now) (scripts_of scripts) ≡ true) }
+    requires { (i < script_calls) × (scripts_in (length bytes.now) (scripts_of scripts.now) ≡ true) }
     ensures { (minute : ℕ)
-        → Steps (λ m. turns (store_reply m) bytes.now minute (scripts_of scripts) i scripts.count)
+        → Steps (λ m. turns (store_reply m) bytes.now minute (scripts_of scripts.now) i scripts.now.count)
         (lent_mut state.old state.new) (lent_mut files.old files.new) (lent_mut logs.old logs.new) (lent_mut marks.old marks.new) (lent_mut undo.old undo.new) (lent_mut reader.old reader.new) ends result }
 {
     let mut out = ends;
@@ -214,7 +214,7 @@ fn make_passes(
     let mut out = ends;
     for i in 0..SCRIPT_CALLS {
         let next = make_pass(
-            state, files, logs, marks, undo, scripts, i, bytes, reader, out,
+            state, files, logs, marks, undo, &scripts, i, bytes, reader, out,
         );
         out = next;
     }

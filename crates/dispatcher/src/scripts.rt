@@ -77,9 +77,9 @@ fn part_in(call: ScriptCall, n: usize) -> bool
 }
 
 // Script k has at most sixteen calls, and the parts of its Writes lie within a data buffer of n bytes.
-fn script_in(scripts: Scripts, k: usize, n: usize) -> bool
+fn script_in(scripts: &Scripts, k: usize, n: usize) -> bool
     requires { k < script_count }
-    ensures { result ≡ script_in n ((scripts_of scripts).script k) }
+    ensures { result ≡ script_in n ((scripts_of scripts.now).script k) }
 {
     let calls = scripts.counts[k];
     if calls > SCRIPT_CALLS {
@@ -102,7 +102,7 @@ pub fn scripts_in(scripts: Scripts, n: usize) -> bool
         return false;
     }
     for k in 0..scripts.count {
-        if !script_in(scripts, k, n) {
+        if !script_in(&scripts, k, n) {
             return false;
         }
     }

@@ -3,7 +3,7 @@
 #![tactic(auto)]
 
 mod records;
-mod settle_call;
+pub mod settle_call;
 
 ghost use Rattle.std.specs.Prelude.{true, false, ◌≡◌, ℕ, ◌<◌, get_or};
 ghost use Rattle.limits.specs.Limits.{descriptor_count, transaction_count};

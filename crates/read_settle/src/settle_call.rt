@@ -41,6 +41,8 @@ pub fn chosen_by_pointer(state: &State, t: usize, d: usize) -> [bool; DESCRIPTOR
 }
 
 // The transaction with every chosen descriptor settled at its committed offset, if all of them can be.
+// The descriptors alone are copied: a copy of the whole is a call of memcpy, which an archive would then need from
+// outside.
 pub fn settle(
     state: &State,
     x: Transaction,
@@ -51,7 +53,7 @@ pub fn settle(
         → get_or (store_of state.now).offsets e 0 ≤ file_bytes }
     ensures { result ≡ settling_of chosen (store_of state.now).offsets x }
 {
-    let mut y = x;
+    let mut descriptors = x.descriptors;
     for e in 0..DESCRIPTORS {
         if chosen[e] {
             let descriptor = x.descriptors[e];
@@ -60,11 +62,11 @@ pub fn settle(
             if FILE_END - c < standing.advance() {
                 return Err(Refusal::AppendPastEnd);
             }
-            y.descriptors[e] = Descriptor {
+            descriptors[e] = Descriptor {
                 standing: standing.settled(c),
                 dirty: descriptor.dirty,
             };
         }
     }
-    Ok(y)
+    Ok(Transaction { descriptors, ..x })
 }

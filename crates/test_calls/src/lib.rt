@@ -799,7 +799,7 @@ fn planned(r: [usize; 12]) -> Plan {
 
 // Transactions for an order: those that are guessed open, or any, at most so many, from a start on by steps.
 // A sum wraps at a multiple of 8.
-fn members(guess: Guess, any: bool, most: usize, start: usize, step: usize) -> NumberList<10> {
+fn members(guess: Guess, any: bool, most: usize, start: usize, step: usize) -> NumberList<8> {
     let mut list = NumberList::new();
     let mut t = start;
     for _ in 0..TRANSACTIONS {
@@ -814,7 +814,11 @@ fn members(guess: Guess, any: bool, most: usize, start: usize, step: usize) -> N
 
 // The list as it is asked about: now and then empty, with a repeat, or with a number above 7 behind it, once
 // or twice.
-fn listed(mut list: NumberList<10>, class: usize, above: u8) -> NumberList<10> {
+fn listed(members: NumberList<8>, class: usize, above: u8) -> NumberList<10> {
+    let mut list = NumberList::new();
+    for member in members.as_slice() {
+        list.push(*member);
+    }
     let first = list.as_slice().first().copied().unwrap_or(above);
     match class {
         1 => list = NumberList::new(),

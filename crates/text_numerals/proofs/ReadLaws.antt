@@ -1,9 +1,9 @@
 -- Laws of numbers on the part of a line from a place on.
-use mathlib.Core.{Bool.{Bool, true, false, cond, ◌&&◌}, List.{List, [], ◌∷◌, ◌++◌}, Path.{◌≡◌, refl, sym, ap, ◌∙◌}}
+use mathlib.Core.{Bool.{Bool, true, false, cond, not, ◌&&◌}, List.{List, [], ◌∷◌, ◌++◌}, Path.{◌≡◌, refl, sym, ap, ◌∙◌}}
 use native.Mathlib.{Numerals.{add-one, add-two}, Omega.arith}
 use lib.{Dec.leb, ListN.{length, take, drop, get_or, set, drop_of_length-le, length-take}}
 use lib.Seq.{drop-cons, take-suc-set, append_snoc}
-use borrow.Author.Tests.{leb-true, leb-false, le-leb, lt-leb, lt-ltb, le-ltb, eq-eqb, ne_eqb}
+use borrow.Author.Tests.{leb-true, leb-false, le-leb, lt-leb, lt-ltb, le-ltb, eq-eqb, ne_eqb, not-true, not-false}
 use Prim.Native.Nat.{ℕ, zero, suc, ◌+◌, ◌-◌, ◌*◌, ◌/◌, ◌%◌, ◌≤◌, ◌<◌, min}
 use Rattle.std.proofs.Common.{◌⊎◌, inl, inr}
 use Rattle.std.proofs.lemmas.List.{take_rest}
@@ -21,6 +21,13 @@ and_left false b e = e
 and_right : (a b : Bool) → a && b ≡ true → b ≡ true
 and_right true b e = e
 and_right false b e = cc
+
+-- A test r whose value is q, and what `if !r` tells of q.
+pub read-failed : {r q : Bool} → r ≡ q → not r ≡ true → q ≡ false
+read-failed e h = sym e ∙ not-true _ h
+
+pub read_held : {r q : Bool} → r ≡ q → not r ≡ false → q ≡ true
+read_held e h = sym e ∙ not-false _ h
 
 -- A digit lies between the bytes of 0 and 9.
 pub digit-bounds : (b : ℕ) → is_digit b ≡ true → (48 ≤ b) × (b ≤ 57)

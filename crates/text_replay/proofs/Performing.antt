@@ -5,7 +5,7 @@ use mathlib.Core.Logic.{◌⊎◌, inl, inr}
 use lib.{Dec.leb, ListN.{length, take, drop, replicate, length-replicate}, Seq.{take-append_seam, take-append-le}}
 use borrow.Author.Tests.{leb-true, leb-false, le-leb, lt-leb}
 use native.Mathlib.Omega.{arith}
-use Prim.Native.Nat.{ℕ, zero, suc, ◌+◌, ◌*◌, ◌≤◌, min}
+use Prim.Native.Nat.{ℕ, zero, suc, ◌+◌, ◌*◌, ◌≤◌, ◌<◌, min}
 use Rattle.limits.specs.Limits.{file_bytes}
 use Rattle.state.specs.{Outcomes.{Said, refused, said}, Outcomes.Outcome}
 use Rattle.state.specs.declared.outcomes.Answer.TheVariants.{Done, Offset, Given, Granted, Pairs, Ordered}
@@ -231,3 +231,8 @@ module _ (line : ParsedEntry) (bytes reader : List ℕ) (m m' : Machine) (o : Ou
         → (size ≤ 4097) × Replies (call (best_order x minute budget) m) o m' (take size reader)
         → (size ≤ 4097) × Replies (turn_of (log_entry_of line bytes) m) o m' (take size reader)
     order-line-replies minute budget size e h = unfold turn_of log_entry_of in rw (e, ← front) h
+
+-- ---- a Read that is not clipped
+
+pub preserved-read : (q : Request) (t d n room : ℕ) → q ≡ Read t d n → room < n → Read t d n ≡ clipped_to room q
+preserved-read q t d n room e h = unfold clipped_to in rw (e, lt-leb n room h) refl

@@ -97,8 +97,9 @@ pub fn write_out(streams: Streams, bytes: &[u8]) -> (usize, io::Result<()>)
 
 // How many lines end in the bytes, and n more.
 pub fn lines_more(bytes: &[u8], n: u64) -> u64 {
-    let ended = bytes.iter().filter(|b| **b == b'\n').count();
-    std::num::wrapping_add_u64(n, ended as u64)
+    bytes
+        .iter()
+        .fold(n, |lines, b| lines.wrapping_add(u64::from(*b == b'\n')))
 }
 
 // Reports a text on standard error.

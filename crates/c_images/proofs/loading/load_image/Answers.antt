@@ -32,4 +32,4 @@ returns c =
     (test-held c.is_canonical.ensures (ap not c.if-not-is_canonical.false)) _ c.young_record-young.ensures _
     c.range_gate.ensures in
     load-follows _ _ _ _ _ _ _ _ _ _ _ _ (gate-zero _ _ says c.in_ok-range_gate.was) c.young_record-young.ensures
-    c.told-marks c.copy_from_slice.ensures.after (c.fill.ensures.after (λ y e. e)) c.copy_from_slice-2.ensures.after
+    c.told-marks c.copy.ensures (c.fill.ensures.after (λ y e. e)) c.copy-2.ensures

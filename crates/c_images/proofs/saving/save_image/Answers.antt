@@ -21,7 +21,7 @@ returns c = let says = c.range_gate.ensures in
       check-passed _ _ _ _ _ _ says told,
       record {
         numbers_put = c.put_numbers.ensures ∙ first_taken _ _ _ within;
-        files_put = c.copy_from_slice.ensures.after ∙ first_taken _ _ _ within;
-        undo_put = c.copy_from_slice-2.ensures.after ∙ first_taken _ _ _ within;
+        files_put = c.copy.ensures ∙ first_taken _ _ _ within;
+        undo_put = c.copy-2.ensures ∙ first_taken _ _ _ within;
       },
     )

@@ -43,8 +43,8 @@ unfolding scripts_of
 loop-k-preserved c =
     let l = c.loop-k in let a = c.args in
     let small : l.k < script_count = omega (arith, scripts-eight _ _ c.requires.1, c.loop-k-test.true) in
-    let due : Bool = c.goes_on.result && ltb a.i (get_or a.scripts.counts l.k 0) in
-    let x : Scripts = scripts_of a.scripts in
+    let due : Bool = c.goes_on.result && ltb a.i (get_or a.scripts.now.counts l.k 0) in
+    let x : Scripts = scripts_of a.scripts.now in
     let before : (minute : ℕ) (m₀ : Machine) → Work → Work = λ minute m₀ w. turns (store_reply m₀) a.bytes.now minute x a.i l.k w in
     let made : (minute : ℕ) (m₀ : Machine) → Work → Work = λ minute m₀ v.
     perform (store_reply m₀) a.bytes.now minute x l.k ((x.script l.k).call a.i) v in
@@ -52,7 +52,7 @@ loop-k-preserved c =
     → WorkStands m₀ w (machine_of a.state.now a.files.now a.logs.now a.marks.now a.undo.now) a.reader.now a.ends n
     → turns (store_reply m₀) a.bytes.now minute x a.i (l.k + 1) w ≡ cond due (made minute m₀ (before minute m₀ w)) (before minute m₀ w) =
     λ minute n m₀ w s. turns-again (store_reply m₀) _ minute _ a.i l.k w ∙ turn-as _ minute x a.i l.k m₀ (before minute m₀ w) due
-    (ap (λ b. b && ltb a.i (get_or a.scripts.counts l.k 0))
+    (ap (λ b. b && ltb a.i (get_or a.scripts.now.counts l.k 0))
     (c.goes_on.ensures ∙ ap goes_on ((l.invariant.5 minute n m₀ w s).ends l.k small))) in
     elim c.if-goes_on-i.branch [
       | then-goes_on-i v ↦ (
@@ -79,6 +79,6 @@ loop-k-preserved c =
 
 pub returns : goal.returns
 unfolding scripts_of
-returns c = let l = c.loop-k in let e : l.k ≡ c.args.scripts.count = omega arith in
+returns c = let l = c.loop-k in let e : l.k ≡ c.args.scripts.now.count = omega arith in
     λ minute n m₀ w s. stands-as m₀ _ _ _ _ _ n
-    (ap (λ (k : ℕ). turns (store_reply m₀) c.args.bytes.now minute (scripts_of c.args.scripts) c.args.i k w) (sym e)) (l.invariant.5 minute n m₀ w s)
+    (ap (λ (k : ℕ). turns (store_reply m₀) c.args.bytes.now minute (scripts_of c.args.scripts.now) c.args.i k w) (sym e)) (l.invariant.5 minute n m₀ w s)

@@ -7,5 +7,5 @@ use Rattle.read_settle.proofs.ChoiceLaws.{settled_front}
 use Rattle.read_settle.proofs.settle_call.settle.Given as goal
 
 abbrev pub invariant-loop-e : goal.invariant-loop-e
-invariant-loop-e l = (l.y ≡ settled_front l.chosen (store_of l.state).offsets l.x l.e)
+invariant-loop-e l = (l.descriptors ≡ (settled_front l.chosen (store_of l.state).offsets l.x l.e).descriptors)
     × (below (settles_within l.chosen (store_of l.state).offsets l.x) l.e ≡ true)
